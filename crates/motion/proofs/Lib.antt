@@ -1,0 +1,5 @@
+pub mod Cases
+pub mod Rounding
+pub mod Circle
+pub mod Sides
+pub mod Total

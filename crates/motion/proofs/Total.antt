@@ -1,0 +1,128 @@
+-- total_cmp's order is a strict total order: by sign first, then by size. Assumes nothing.
+use mathlib.Core.Path.{_≡_, refl, sym, ap, subst, _∙_}
+use mathlib.Core.Bool.{Bool, true, false, not, _&&_, _||_, cond, Bool·beq}
+use Prim.Native.Nat.{ℕ, zero, suc, _+_, _*_, _<_, _≤_}
+use native.Mathlib.Nat.{mul-pos, mul-right-comm, mul-lt-mul-of-pos-right, lt-of-mul-lt-mul-right, lt-trans}
+use native.Mathlib.Omega.{arith}
+use lib.Dec.{T, ltb, eqb}
+use lib.IntN.{ℤ}
+use lib.Ieee.{Float, nan, inf, fin, binary64, up, down, below, level, lt, eq, isNan, fits}
+use lib.Ieee.Fits.{down-pos}
+use borrow.Author.Tests.{ltb-true, ltb-false, lt-ltb, le-ltb, eqb-true, eq-eqb}
+use Rattle.motion.specs.Float as F64
+use Rattle.motion.specs.Facts.{IsF64, TotalOrder}
+use Rattle.motion.proofs.Cases.{no, yes, holds}
+use Rattle.motion.proofs.Rounding.{unique}
+
+-- finite floats: what has a sign first, then by size
+abbrev earlier : Bool → ℕ → Bool → ℕ → Bool
+earlier false a false b = ltb a b
+earlier false a true b = false
+earlier true a false b = true
+earlier true a true b = ltb b a
+
+before-fin : (s : Bool) (m : ℕ) (e : ℤ) (t : Bool) (n : ℕ) (d : ℤ) → F64.totalBefore (fin s m e) (fin t n d) ≡ earlier s (m * up e * down d) t (n * up d * down e)
+unfolding F64.totalBefore F64.isSignNegative lt eq isNan
+before-fin s m e t n d = go s t (m * up e * down d) (n * up d * down e)
+  where
+    last : (x y : Bool) → cond x true (cond y false false) ≡ x
+    last true y = refl
+    last false true = refl
+    last false false = refl
+
+    go : (s t : Bool) (a b : ℕ) → cond (below s a t b) true (cond (level s a t b) (s && not t) false) ≡ earlier s a t b
+    go false false a b = last (ltb a b) (level false a false b)
+    go false true a b = last false (level false a true b)
+    go true true a b = last (ltb b a) (level true a true b)
+    go true false zero zero = refl
+    go true false zero (suc b) = rw (lt-ltb 0 (0 + suc b) (omega arith))
+    go true false (suc a) b = rw (lt-ltb 0 (suc a + b) (omega arith))
+
+-- a / e < b / d and b / d < c / g
+chain : (a b c e d g : ℕ) → 0 < e → 0 < d → 0 < g → a * d < b * e → b * g < c * d → a * g < c * e
+chain a b c e d g E D G p q =
+    lt-of-mul-lt-mul-right d
+    (subst (λ (x : ℕ). x < c * e * d) (mul-right-comm a d g)
+    (lt-trans (mul-lt-mul-of-pos-right p G)
+    (subst (λ (x : ℕ). x < c * e * d) (mul-right-comm b g e) (subst (λ (x : ℕ). b * g * e < x) (mul-right-comm c d e) (mul-lt-mul-of-pos-right q E)))))
+
+fin-trans : (s : Bool) (m : ℕ) (e : ℤ) (t : Bool) (n : ℕ) (d : ℤ) (u : Bool) (l : ℕ) (g : ℤ)
+    → earlier s (m * up e * down d) t (n * up d * down e) ≡ true → earlier t (n * up d * down g) u (l * up g * down d) ≡ true
+    → earlier s (m * up e * down g) u (l * up g * down e) ≡ true
+fin-trans false m e false n d false l g p q =
+    lt-ltb _ _ (chain (m * up e) (n * up d) (l * up g) (down e) (down d) (down g) (down-pos e) (down-pos d) (down-pos g) (ltb-true _ _ p) (ltb-true _ _ q))
+fin-trans true m e true n d true l g p q =
+    lt-ltb _ _ (chain (l * up g) (n * up d) (m * up e) (down g) (down d) (down e) (down-pos g) (down-pos d) (down-pos e) (ltb-true _ _ q) (ltb-true _ _ p))
+fin-trans true m e true n d false l g p q = refl
+fin-trans true m e false n d false l g p q = refl
+fin-trans true m e false n d true l g p q = no q
+fin-trans false m e true n d u l g p q = no p
+fin-trans false m e false n d true l g p q = no q
+
+before-trans : (x y z : Float) → F64.totalBefore x y ≡ true → F64.totalBefore y z ≡ true → F64.totalBefore x z ≡ true
+unfolding F64.totalBefore F64.isSignNegative lt eq isNan
+before-trans nan y z p q = no p
+before-trans (inf false) nan z p q = no q
+before-trans (inf false) (inf true) z p q = no p
+before-trans (inf false) (inf false) z p q = no p
+before-trans (inf false) (fin t n d) z p q = no p
+before-trans (inf true) nan z p q = no q
+before-trans (inf true) (inf true) z p q = no p
+before-trans (inf true) (inf false) nan p q = refl
+before-trans (inf true) (inf false) (inf true) p q = no q
+before-trans (inf true) (inf false) (inf false) p q = no q
+before-trans (inf true) (inf false) (fin u l g) p q = no q
+before-trans (inf true) (fin t n d) nan p q = refl
+before-trans (inf true) (fin t n d) (inf true) p q = no q
+before-trans (inf true) (fin t n d) (inf false) p q = refl
+before-trans (inf true) (fin t n d) (fin u l g) p q = refl
+before-trans (fin s m e) nan z p q = no q
+before-trans (fin s m e) (inf true) z p q = no p
+before-trans (fin s m e) (inf false) nan p q = refl
+before-trans (fin s m e) (inf false) (inf true) p q = no q
+before-trans (fin s m e) (inf false) (inf false) p q = no q
+before-trans (fin s m e) (inf false) (fin u l g) p q = no q
+before-trans (fin s m e) (fin t n d) nan p q = refl
+before-trans (fin s m e) (fin t n d) (inf true) p q = no q
+before-trans (fin s m e) (fin t n d) (inf false) p q = refl
+before-trans (fin s m e) (fin t n d) (fin u l g) p q =
+    before-fin s m e u l g ∙ fin-trans s m e t n d u l g (sym (before-fin s m e t n d) ∙ p) (sym (before-fin t n d u l g) ∙ q)
+
+before-itself : (x : Float) → F64.totalBefore x x ≡ false
+unfolding F64.totalBefore F64.isSignNegative lt eq isNan
+before-itself nan = refl
+before-itself (inf true) = refl
+before-itself (inf false) = refl
+before-itself (fin true m e) = before-fin true m e true m e ∙ le-ltb (m * up e * down e) (m * up e * down e) (omega arith)
+before-itself (fin false m e) = before-fin false m e false m e ∙ le-ltb (m * up e * down e) (m * up e * down e) (omega arith)
+
+level-sizes : (a b : ℕ) → ltb a b ≡ false → ltb b a ≡ false → a ≡ b
+level-sizes a b p q = omega (arith, ltb-false a b p, ltb-false b a q)
+
+fin-same : (s : Bool) (m : ℕ) (e : ℤ) (t : Bool) (n : ℕ) (d : ℤ) → IsF64 (fin s m e) → IsF64 (fin t n d)
+    → earlier s (m * up e * down d) t (n * up d * down e) ≡ false → earlier t (n * up d * down e) s (m * up e * down d) ≡ false → fin s m e ≡ fin t n d
+fin-same false m e false n d f g p q = unique false m e n d (holds f) (holds g) (level-sizes (m * up e * down d) (n * up d * down e) p q)
+fin-same true m e true n d f g p q = unique true m e n d (holds f) (holds g) (level-sizes (m * up e * down d) (n * up d * down e) q p)
+fin-same true m e false n d f g p q = yes p
+fin-same false m e true n d f g p q = yes q
+
+before-same : (x y : Float) → IsF64 x → IsF64 y → F64.totalBefore x y ≡ false → F64.totalBefore y x ≡ false → x ≡ y
+unfolding F64.totalBefore F64.isSignNegative lt eq isNan
+before-same nan nan f g p q = refl
+before-same nan (inf t) f g p q = yes q
+before-same nan (fin t n d) f g p q = yes q
+before-same (inf s) nan f g p q = yes p
+before-same (inf true) (inf true) f g p q = refl
+before-same (inf true) (inf false) f g p q = yes p
+before-same (inf false) (inf true) f g p q = yes q
+before-same (inf false) (inf false) f g p q = refl
+before-same (inf true) (fin t n d) f g p q = yes p
+before-same (inf false) (fin t n d) f g p q = yes q
+before-same (fin s m e) nan f g p q = yes p
+before-same (fin s m e) (inf true) f g p q = yes q
+before-same (fin s m e) (inf false) f g p q = yes p
+before-same (fin s m e) (fin t n d) f g p q = fin-same s m e t n d f g (sym (before-fin s m e t n d) ∙ p) (sym (before-fin t n d s m e) ∙ q)
+
+pub total-order : TotalOrder
+unfolding TotalOrder
+total-order = (before-itself, before-trans, before-same)

@@ -1,0 +1,23 @@
+-- `motion::facts::facts` meets its contract. Assumes nothing.
+use mathlib.Core.Path.{refl}
+use Rattle.motion.proofs.Circle.{wrap-in-circle, forward-in-circle, forward-is-number, headway-in-circle}
+use Rattle.motion.proofs.Sides.{epsilon-keeps-side}
+use Rattle.motion.proofs.Total.{total-order}
+use Rattle.motion.proofs.facts.facts.Statement.{statement}
+use Rattle.motion.proofs.facts.facts.Tie as tie
+
+returns : tie.Need-returns
+returns c = (
+  refl,
+  record {
+    wrapped = wrap-in-circle;
+    forward = forward-in-circle;
+    number = forward-is-number;
+    headway = headway-in-circle;
+    side = epsilon-keeps-side;
+    order = total-order;
+  },
+)
+
+pub facts-spec : {M : Type 1} → statement M
+facts-spec = tie.close (tie.spec returns)

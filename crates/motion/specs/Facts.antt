@@ -1,0 +1,56 @@
+-- Facts of the formulas that hold on every circle and for every float. The function `facts` carries them.
+use mathlib.Core.Path.{_≡_}
+use mathlib.Core.Bool.{true, false}
+use lib.Ieee.{Float, binary64, add, sub, lt, le, isNan, fits}
+use Rattle.motion.specs.Float.{zero, epsilon, isFinite, totalBefore}
+use Rattle.motion.specs.Cyclic.{degenerate, wrapPosition, forwardDistance}
+use Rattle.motion.specs.Movement.{headwayClampTarget}
+
+-- an f64: the logic's Float serves other formats too
+abbrev pub IsF64 : Float → Type 0
+IsF64 x = fits binary64 x ≡ true
+
+-- a circle: an f64 above 0 and finite
+abbrev pub IsCircle : Float → Type 0
+IsCircle c = IsF64 c × (degenerate c ≡ false)
+
+-- x lies in [0, c)
+abbrev pub InCircle : Float → Float → Type 0
+InCircle x c = (le zero x ≡ true) × (lt x c ≡ true)
+
+-- wrap_position of a finite position lies in [0, c)
+unfoldable pub WrapInCircle : Type 0
+WrapInCircle = (p c : Float) → IsCircle c → isFinite p ≡ true → InCircle (wrapPosition p c) c
+
+-- forward_distance lies in [0, c] whatever the positions: the whole circle is possible, as from 1e-20 to 0
+unfoldable pub ForwardInCircle : Type 0
+ForwardInCircle = (from to c : Float) → IsCircle c → (le zero (forwardDistance from to c) ≡ true) × (le (forwardDistance from to c) c ≡ true)
+
+-- forward_distance is never a NaN, whatever the three arguments are
+unfoldable pub ForwardIsNumber : Type 0
+ForwardIsNumber = (from to c : Float) → IsF64 c → isNan (forwardDistance from to c) ≡ false
+
+-- headway_clamp_target of finite arguments lies in [0, c) where twice the circle is finite too.
+-- On a larger circle trailer + safe_advance can be infinite, and so is the answer, in the Rust as here (docs/DIFFERENCES.md).
+unfoldable pub HeadwayInCircle : Type 0
+HeadwayInCircle = (trailer leader intended headway c : Float) → IsCircle c → isFinite (add binary64 c c) ≡ true
+    → isFinite trailer ≡ true → isFinite intended ≡ true → isFinite headway ≡ true → InCircle (headwayClampTarget trailer leader intended headway c) c
+
+-- fl(x - 1e-9) ≤ x and x ≤ fl(x + 1e-9), for every f64 that is a number
+unfoldable pub EpsilonKeepsSide : Type 0
+EpsilonKeepsSide = (x : Float) → IsF64 x → isNan x ≡ false → (le (sub binary64 x epsilon) x ≡ true) × (le x (add binary64 x epsilon) ≡ true)
+
+-- total_cmp is a strict total order of the f64s: no x is before itself, "before" is transitive, and of two different f64s one is before the other
+unfoldable pub TotalOrder : Type 0
+TotalOrder = ((x : Float) → totalBefore x x ≡ false)
+    × ((x y z : Float) → totalBefore x y ≡ true → totalBefore y z ≡ true → totalBefore x z ≡ true)
+    × ((x y : Float) → IsF64 x → IsF64 y → totalBefore x y ≡ false → totalBefore y x ≡ false → x ≡ y)
+
+-- all of them
+pub record Facts : Type 0 where
+  pub wrapped : WrapInCircle
+  pub forward : ForwardInCircle
+  pub number : ForwardIsNumber
+  pub headway : HeadwayInCircle
+  pub side : EpsilonKeepsSide
+  pub order : TotalOrder

@@ -1,0 +1,4 @@
+pub mod Float
+pub mod Cyclic
+pub mod Movement
+pub mod Facts
