@@ -24,6 +24,10 @@ holds h = subst T (sym h) tt
 pub fails : {b : Bool} → b ≡ false → T (not b)
 fails h = subst (λ (x : Bool). T (not x)) (sym h) tt
 
+pub and-right : (a b : Bool) → (a && b) ≡ true → b ≡ true
+and-right true b h = h
+and-right false b h = no h
+
 pub and-left : (a b : Bool) → (a && b) ≡ true → a ≡ true
 and-left true b h = refl
 and-left false b h = no h
@@ -70,12 +74,6 @@ ne-self (inf s) = rw (eq-self (inf s))
 ne-self (fin s m e) = rw (eq-self (fin s m e))
 
 -- ---- the sign, at a NaN and elsewhere
-
-pub sign-of-nan : (x : Float) → isNan x ≡ true → false ≡ F64.isSignNegative x
-unfolding isNan F64.isSignNegative
-sign-of-nan nan h = refl
-sign-of-nan (inf s) h = no h
-sign-of-nan (fin s m e) h = no h
 
 pub signum-of-nan : (x : Float) → isNan x ≡ true → x ≡ F64.signum x
 unfolding isNan F64.signum

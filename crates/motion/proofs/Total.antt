@@ -5,13 +5,13 @@ use Prim.Native.Nat.{ℕ, zero, suc, _+_, _*_, _<_, _≤_}
 use native.Mathlib.Nat.{mul-pos, mul-right-comm, mul-lt-mul-of-pos-right, lt-of-mul-lt-mul-right, lt-trans}
 use native.Mathlib.Omega.{arith}
 use lib.Dec.{T, ltb, eqb}
-use lib.IntN.{ℤ}
-use lib.Ieee.{Float, nan, inf, fin, binary64, up, down, below, level, lt, eq, isNan, fits}
-use lib.Ieee.Fits.{down-pos}
+use lib.IntN.{ℤ, pos}
+use lib.Ieee.{Float, nan, inf, fin, binary64, up, down, below, level, lt, eq, ne, isNan, toBits}
+use lib.Ieee.Fits.{up-pos, down-pos}
 use borrow.Author.Tests.{ltb-true, ltb-false, lt-ltb, le-ltb, eqb-true, eq-eqb}
 use Rattle.motion.specs.Float as F64
 use Rattle.motion.specs.Facts.{IsF64, TotalOrder}
-use Rattle.motion.proofs.Cases.{no, yes, holds}
+use Rattle.motion.proofs.Cases.{no, yes, holds, and-left, and-right, zero-exponent, eq-self, ne-self}
 use Rattle.motion.proofs.Rounding.{unique}
 
 -- finite floats: what has a sign first, then by size
@@ -126,3 +126,90 @@ before-same (fin s m e) (fin t n d) f g p q = fin-same s m e t n d f g (sym (bef
 pub total-order : TotalOrder
 unfolding TotalOrder
 total-order = (before-itself, before-trans, before-same)
+
+-- ---- the code's tests
+
+-- a size that is 0
+null : (m : ℕ) (e d : ℤ) → m * up e * down d ≡ 0 → m ≡ 0
+null zero e d h = refl
+null (suc m) e d h = let p : 0 < suc m * up e * down d = mul-pos (mul-pos (omega arith) (up-pos e)) (down-pos d) in absurd (omega arith)
+
+-- finite floats that compare equal have one pattern, or are the two zeros
+alike : (s : Bool) (m : ℕ) (e : ℤ) (n : ℕ) (d : ℤ) → IsF64 (fin s m e) → IsF64 (fin s n d) → m * up e * down d ≡ n * up d * down e
+    → ltb (toBits binary64 (fin s n d)) (toBits binary64 (fin s m e)) ≡ (s && not s)
+alike s m e n d t u h =
+    rw (unique s m e n d (holds t) (holds u) h) (le-ltb (toBits binary64 (fin s n d)) (toBits binary64 (fin s n d)) (omega arith) ∙ never s)
+  where
+    never : (s : Bool) → false ≡ (s && not s)
+    never true = refl
+    never false = refl
+
+zeros : (s r : Bool) (m : ℕ) (e : ℤ) (n : ℕ) (d : ℤ) → IsF64 (fin s m e) → IsF64 (fin r n d) → m ≡ 0 → n ≡ 0
+    → ltb (toBits binary64 (fin r n d)) (toBits binary64 (fin s m e)) ≡ (s && not r)
+unfolding toBits
+zeros s r (suc m) e n d t u p q = absurd (omega arith)
+zeros s r zero e (suc n) d t u p q = absurd (omega arith)
+zeros s r zero e zero d t u p q = rw (zero-exponent s e t, zero-exponent r d u) (go s r)
+  where
+    go : (s r : Bool) → ltb (toBits binary64 (fin r 0 (pos 0))) (toBits binary64 (fin s 0 (pos 0))) ≡ (s && not r)
+    go true true = refl
+    go true false = refl
+    go false true = refl
+    go false false = refl
+
+equal-bits : (x y : Float) → IsF64 x → IsF64 y → eq x y ≡ true → ltb (F64.numberBits y) (F64.numberBits x) ≡ (F64.isSignNegative x && not (F64.isSignNegative y))
+unfolding F64.numberBits F64.isSignNegative isNan eq
+equal-bits nan y t u h = no h
+equal-bits (inf s) nan t u h = no h
+equal-bits (inf true) (inf true) t u h = unfold toBits in refl
+equal-bits (inf true) (inf false) t u h = no h
+equal-bits (inf false) (inf true) t u h = no h
+equal-bits (inf false) (inf false) t u h = unfold toBits in refl
+equal-bits (inf s) (fin r n d) t u h = no h
+equal-bits (fin s m e) nan t u h = no h
+equal-bits (fin s m e) (inf r) t u h = no h
+equal-bits (fin s m e) (fin r n d) t u h = go s r t u (and-right (eqb (m * up e * down d) (n * up d * down e)) (Bool·beq s r || eqb (m * up e * down d) 0) h)
+  where
+    same : m * up e * down d ≡ n * up d * down e
+    same = eqb-true (m * up e * down d) (n * up d * down e) (and-left (eqb (m * up e * down d) (n * up d * down e)) (Bool·beq s r || eqb (m * up e * down d) 0) h)
+
+    apart : (s r : Bool) → IsF64 (fin s m e) → IsF64 (fin r n d) → eqb (m * up e * down d) 0 ≡ true
+        → ltb (toBits binary64 (fin r n d)) (toBits binary64 (fin s m e)) ≡ (s && not r)
+    apart s r t u z =
+        let a : m * up e * down d ≡ 0 = eqb-true (m * up e * down d) 0 z in
+        zeros s r m e n d t u (null m e d a) (null n d e (sym same ∙ a))
+
+    go : (s r : Bool) → IsF64 (fin s m e) → IsF64 (fin r n d) → (Bool·beq s r || eqb (m * up e * down d) 0) ≡ true
+        → ltb (toBits binary64 (fin r n d)) (toBits binary64 (fin s m e)) ≡ (s && not r)
+    go true true t u k = alike true m e n d t u same
+    go false false t u k = alike false m e n d t u same
+    go true false t u k = apart true false t u k
+    go false true t u k = apart false true t u k
+
+-- what compares equal is no NaN
+equal-number : (x y : Float) → eq x y ≡ true → isNan y ≡ false
+unfolding eq isNan
+equal-number nan y h = no h
+equal-number (inf s) nan h = no h
+equal-number (inf s) (inf r) h = refl
+equal-number (inf s) (fin r n d) h = refl
+equal-number (fin s m e) nan h = no h
+equal-number (fin s m e) (inf r) h = refl
+equal-number (fin s m e) (fin r n d) h = refl
+
+pub total-by-bits : (x y : Float) → IsF64 x → IsF64 y
+    → (lt x y || (eq x y && ltb (F64.numberBits y) (F64.numberBits x)) || (eq x x && ne y y)) ≡ F64.totalBefore x y
+unfolding F64.totalBefore
+total-by-bits x y t u = rw (eq-self x, ne-self y) (go (lt x y) (eq x y) refl)
+  where
+    third : (a b c : Bool) → c ≡ false → (a || (b && c)) ≡ a
+    third true b c h = refl
+    third false true c h = h
+    third false false c h = refl
+
+    go : (l q : Bool) → eq x y ≡ q
+        → (l || (q && ltb (F64.numberBits y) (F64.numberBits x)) || (not (isNan x) && isNan y))
+        ≡ cond l true (cond q (F64.isSignNegative x && not (F64.isSignNegative y)) (not (isNan x) && isNan y))
+    go true q e = refl
+    go false false e = refl
+    go false true e = third _ (not (isNan x)) (isNan y) (equal-number x y e) ∙ equal-bits x y t u e

@@ -1,7 +1,7 @@
 -- Facts of the formulas that hold on every circle and for every float. The function `facts` carries them.
 use mathlib.Core.Path.{_≡_}
 use mathlib.Core.Bool.{true, false}
-use lib.Ieee.{Float, binary64, add, sub, lt, le, isNan, fits}
+use lib.Ieee.{Float, inf, ofBits, binary64, add, sub, lt, le, isNan, fits}
 use Rattle.motion.specs.Float.{zero, epsilon, isFinite, totalBefore}
 use Rattle.motion.specs.Cyclic.{degenerate, wrapPosition, forwardDistance}
 use Rattle.motion.specs.Movement.{headwayClampTarget}
@@ -36,6 +36,17 @@ unfoldable pub HeadwayInCircle : Type 0
 HeadwayInCircle = (trailer leader intended headway c : Float) → IsCircle c → isFinite (add binary64 c c) ≡ true
     → isFinite trailer ≡ true → isFinite intended ≡ true → isFinite headway ≡ true → InCircle (headwayClampTarget trailer leader intended headway c) c
 
+-- as here: circle 1.5 * 2^1023, trailer 2^1023, leader 1.5 * 2^1022, target 1.75 * 2^1022, headway 2^1020
+unfoldable pub HeadwayOnLargeCircle : Type 0
+HeadwayOnLargeCircle =
+    headwayClampTarget
+    (ofBits binary64 0x7fe0_0000_0000_0000)
+    (ofBits binary64 0x7fd8_0000_0000_0000)
+    (ofBits binary64 0x7fdc_0000_0000_0000)
+    (ofBits binary64 0x7fb0_0000_0000_0000)
+    (ofBits binary64 0x7fe8_0000_0000_0000)
+    ≡ inf false
+
 -- fl(x - 1e-9) ≤ x and x ≤ fl(x + 1e-9), for every f64 that is a number
 unfoldable pub EpsilonKeepsSide : Type 0
 EpsilonKeepsSide = (x : Float) → IsF64 x → isNan x ≡ false → (le (sub binary64 x epsilon) x ≡ true) × (le x (add binary64 x epsilon) ≡ true)
@@ -52,5 +63,6 @@ pub record Facts : Type 0 where
   pub forward : ForwardInCircle
   pub number : ForwardIsNumber
   pub headway : HeadwayInCircle
+  pub large : HeadwayOnLargeCircle
   pub side : EpsilonKeepsSide
   pub order : TotalOrder

@@ -1,6 +1,7 @@
 // f64's methods, as the pages of Rust's standard library have them.
 ghost use mathlib.Core.Path.{_≡_};
 ghost use Rattle.motion.specs.Float as Float;
+ghost use Rattle.motion.specs.Float.{numberBits};
 
 // f64::abs. 0 - x is -x exactly, and +0 at either zero.
 pub fn abs(x: f64) -> f64
@@ -8,16 +9,6 @@ pub fn abs(x: f64) -> f64
 {
     let y = 0.0 - x;
     if x > y { x } else { y }
-}
-
-// f64::is_sign_negative of a number; false at a NaN.
-fn is_sign_negative(x: f64) -> bool
-    ensures { λ r. ⌜ r ≡ Float.isSignNegative x ⌝ }
-{
-    if x != x {
-        return false;
-    }
-    f64::to_bits(x) >= 0x8000_0000_0000_0000
 }
 
 // f64::signum
@@ -84,15 +75,16 @@ pub fn rem_euclid(x: f64, rhs: f64) -> f64
     if r < 0.0 { r + abs(rhs) } else { r }
 }
 
-// Whether f64::total_cmp of x and y is Less.
+// The bit pattern of a number; 0 at a NaN.
+fn number_bits(x: f64) -> u64
+    ensures { λ r. ⌜ r ≡ numberBits x ⌝ }
+{
+    if x != x { 0 } else { f64::to_bits(x) }
+}
+
+// Whether f64::total_cmp of x and y is Less. Of two equal numbers with unlike bits, the zeros, -0 has the greater pattern.
 pub fn total_before(x: f64, y: f64) -> bool
     ensures { λ r. ⌜ r ≡ Float.totalBefore x y ⌝ }
 {
-    if x < y {
-        return true;
-    }
-    if x == y {
-        return is_sign_negative(x) & !is_sign_negative(y);
-    }
-    (x == x) & (y != y)
+    (x < y) | (x == y) & (number_bits(x) > number_bits(y)) | (x == x) & (y != y)
 }

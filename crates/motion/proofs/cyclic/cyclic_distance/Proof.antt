@@ -11,7 +11,7 @@ returns-2 : tie.Need-returns-2
 unfolding cyclicDistance
 returns-2 c =
     let b = c .before .before in
-    rw (← b .before .is-finite .ensures, b .if1 .left, ← c .before .forward-distance .ensures, ← c .min .ensures)
+    rw (← b .before .is-finite .ensures, b .if1 .left, c .min .ensures, c .before .forward-distance .ensures)
 
 pub cyclic-distance-spec : {M : Type 1} → statement M
 cyclic-distance-spec = tie.close (tie.spec (λ c κs. tt) returns (λ c κs. tt) (λ c κs. tt) returns-2)

@@ -25,8 +25,8 @@ known c =
       ← b .before .before .is-finite2 .ensures,
       ← b .before .is-finite3 .ensures,
       b .if1 .left,
-      ← c .before .wrap-position .ensures,
-      ← c .wrap-position2 .ensures,
+      c .wrap-position2 .ensures,
+      c .before .wrap-position .ensures,
     )
 
 returns-2 : tie.Need-returns-2

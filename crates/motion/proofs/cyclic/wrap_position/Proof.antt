@@ -19,7 +19,7 @@ known : (c : tie.After-rem-euclid) →
 unfolding wrapPosition
 known c =
     let b = c .before in
-    rw (← b .before .before .is-finite .ensures, ← b .before .is-finite2 .ensures, b .if1 .left, ← c .rem-euclid .ensures)
+    rw (← b .before .before .is-finite .ensures, ← b .before .is-finite2 .ensures, b .if1 .left, c .rem-euclid .ensures)
 
 returns-2 : tie.Need-returns-2
 returns-2 c = rw (known (c .before), c .if2 .taken)

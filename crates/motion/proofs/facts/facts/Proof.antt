@@ -1,10 +1,19 @@
 -- `motion::facts::facts` meets its contract. Assumes nothing.
 use mathlib.Core.Path.{refl}
+use lib.Ieee.{ofBits, add, sub, rem, neg, lt, le, eq, isNan}
+use Rattle.motion.specs.Float.{abs, isFinite, max, remEuclid}
+use Rattle.motion.specs.Cyclic.{wrapPosition, forwardDistance}
+use Rattle.motion.specs.Movement.{headwayClampTarget}
+use Rattle.motion.specs.Facts.{HeadwayOnLargeCircle}
 use Rattle.motion.proofs.Circle.{wrap-in-circle, forward-in-circle, forward-is-number, headway-in-circle}
 use Rattle.motion.proofs.Sides.{epsilon-keeps-side}
 use Rattle.motion.proofs.Total.{total-order}
 use Rattle.motion.proofs.facts.facts.Statement.{statement}
 use Rattle.motion.proofs.facts.facts.Tie as tie
+
+large-circle : HeadwayOnLargeCircle
+unfolding HeadwayOnLargeCircle headwayClampTarget wrapPosition forwardDistance abs isFinite max remEuclid ofBits add sub rem neg lt le eq isNan
+large-circle = refl
 
 returns : tie.Need-returns
 returns c = (
@@ -14,6 +23,7 @@ returns c = (
     forward = forward-in-circle;
     number = forward-is-number;
     headway = headway-in-circle;
+    large = large-circle;
     side = epsilon-keeps-side;
     order = total-order;
   },

@@ -9,7 +9,7 @@ returns c = rw (c .if1 .taken)
 
 returns-2 : tie.Need-returns-2
 unfolding brakingDistance
-returns-2 c = rw (c .before .if1 .left, ← c .abs .ensures)
+returns-2 c = rw (c .before .if1 .left, c .abs .ensures)
 
 pub braking-distance-spec : {M : Type 1} → statement M
 braking-distance-spec = tie.close (tie.spec returns (λ c κs. tt) returns-2)

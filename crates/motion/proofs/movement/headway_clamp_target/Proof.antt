@@ -30,19 +30,19 @@ known c =
       ← b .before .before .is-finite .ensures,
       ← b .before .is-finite2 .ensures,
       b .if1 .left,
-      ← i .before .before .wrap-position .ensures,
-      ← i .before .wrap-position2 .ensures,
-      ← i .wrap-position3 .ensures,
-      ← g .forward-distance .ensures,
-      ← c .before .max .ensures,
-      ← c .forward-distance2 .ensures,
+      c .forward-distance2 .ensures,
+      c .before .max .ensures,
+      g .forward-distance .ensures,
+      i .wrap-position3 .ensures,
+      i .before .wrap-position2 .ensures,
+      i .before .before .wrap-position .ensures,
     )
 
 returns-2 : tie.Need-returns-2
 returns-2 c = rw (known (c .before), c .if2 .taken)
 
 returns-3 : tie.Need-returns-3
-returns-3 c = rw (known (c .before .before), c .before .if2 .left, ← c .wrap-position4 .ensures)
+returns-3 c = rw (known (c .before .before), c .before .if2 .left, c .wrap-position4 .ensures)
 
 pub headway-clamp-target-spec : {M : Type 1} → statement M
 headway-clamp-target-spec = tie.close (tie.spec (λ c κs. tt) (λ c κs. tt) returns (λ c κs. tt) (λ c κs. tt) (λ c κs. tt) (λ c κs. tt) (λ c κs. tt) (λ c κs. tt) (λ c κs. tt) returns-2 returns-3)

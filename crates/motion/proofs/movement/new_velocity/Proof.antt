@@ -21,13 +21,13 @@ known : (c : tie.After-max) →
     (accelerated (args .velocity) (args .sign) (args .max-speed) (args .acceleration) (args .dt))
     (mul binary64 (args .sign) (args .max-speed)))
 unfolding newVelocity
-known c = rw (← c .before .before .abs .ensures, ← c .before .abs2 .ensures, ← c .max .ensures)
+known c = rw (c .before .before .abs .ensures, c .before .abs2 .ensures, c .max .ensures)
 
 returns : tie.Need-returns
-returns c = rw (known (c .before .before), c .before .if1 .taken, ← c .decelerated .ensures)
+returns c = rw (known (c .before .before), c .before .if1 .taken, c .decelerated .ensures)
 
 returns-2 : tie.Need-returns-2
-returns-2 c = rw (known (c .before .before .before), c .before .before .if1 .left, c .before .if2 .taken, ← c .accelerated .ensures)
+returns-2 c = rw (known (c .before .before .before), c .before .before .if1 .left, c .before .if2 .taken, c .accelerated .ensures)
 
 returns-3 : tie.Need-returns-3
 returns-3 c = rw (known (c .before .before), c .before .if1 .left, c .if2 .left)

@@ -28,12 +28,12 @@ known c =
       ← b .before .before .abs .ensures,
       ← b .before .abs2 .ensures,
       b .if1 .left,
-      ← v .before .signum .ensures,
-      ← v .new-velocity .ensures,
-      ← c .before .before .before .fma .ensures,
-      ← c .before .before .abs3 .ensures,
-      ← c .before .signum2 .ensures,
-      ← c .abs4 .ensures,
+      c .abs4 .ensures,
+      c .before .signum2 .ensures,
+      c .before .before .abs3 .ensures,
+      c .before .before .before .fma .ensures,
+      v .new-velocity .ensures,
+      v .before .signum .ensures,
     )
 
 returns-2 : tie.Need-returns-2

@@ -35,7 +35,7 @@ returns-3 c =
       ← t .before .forward-distance .ensures,
       ← t .tick-movement .ensures,
       c .before .before .if2 .left,
-      ← c .wrap-position3 .ensures,
+      c .wrap-position3 .ensures,
     )
 
 pub tick-movement-cyclic-spec : {M : Type 1} → statement M

@@ -1,0 +1,5 @@
+//! Stand-in for dispatch/destination.rs.
+
+unused_strategy!(DestinationDispatch);
+
+pub struct AssignedCar;

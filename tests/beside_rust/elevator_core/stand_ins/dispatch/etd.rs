@@ -1,0 +1,3 @@
+//! Stand-in for dispatch/etd.rs.
+
+unused_strategy!(EtdDispatch);

@@ -1,0 +1,3 @@
+//! Stand-in for dispatch/look.rs.
+
+unused_strategy!(LookDispatch);

@@ -1,0 +1,3 @@
+//! Stand-in for dispatch/loop_schedule.rs.
+
+unused_strategy!(LoopScheduleDispatch);

@@ -1,0 +1,3 @@
+//! Stand-in for dispatch/loop_sweep.rs.
+
+unused_strategy!(LoopSweepDispatch);

@@ -1,0 +1,3 @@
+//! Stand-in for dispatch/nearest_car.rs.
+
+unused_strategy!(NearestCarDispatch);

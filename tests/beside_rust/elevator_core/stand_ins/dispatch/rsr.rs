@@ -1,0 +1,3 @@
+//! Stand-in for dispatch/rsr.rs.
+
+unused_strategy!(RsrDispatch);

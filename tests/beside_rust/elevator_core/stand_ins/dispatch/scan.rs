@@ -1,0 +1,3 @@
+//! Stand-in for dispatch/scan.rs.
+
+unused_strategy!(ScanDispatch);

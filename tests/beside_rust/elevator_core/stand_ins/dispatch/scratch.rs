@@ -1,0 +1,3 @@
+//! Stand-in for dispatch/scratch.rs: a strategy's buffers.
+
+pub struct PrepareScratch;

@@ -1,0 +1,1 @@
+//! Stand-in for dispatch/sweep.rs: shared by strategies; nothing of it is named here.

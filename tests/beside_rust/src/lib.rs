@@ -1,0 +1,5 @@
+//! What the comparison and the benchmark share.
+
+pub mod answer;
+pub mod inputs;
+pub mod ours;
