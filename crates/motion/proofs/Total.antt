@@ -6,12 +6,12 @@ use native.Mathlib.Nat.{mul-pos, mul-right-comm, mul-lt-mul-of-pos-right, lt-of-
 use native.Mathlib.Omega.{arith}
 use lib.Dec.{T, ltb, eqb}
 use lib.IntN.{ℤ, pos}
-use lib.Ieee.{Float, nan, inf, fin, binary64, up, down, below, level, lt, eq, ne, isNan, toBits}
+use lib.Ieee.{Float, nan, inf, fin, binary64, up, down, below, level, lt, eq, isNan, toBits}
 use lib.Ieee.Fits.{up-pos, down-pos}
 use borrow.Author.Tests.{ltb-true, ltb-false, lt-ltb, le-ltb, eqb-true, eq-eqb}
 use Rattle.motion.specs.Float as F64
 use Rattle.motion.specs.Facts.{IsF64, TotalOrder}
-use Rattle.motion.proofs.Cases.{no, yes, holds, and-left, and-right, zero-exponent, eq-self, ne-self}
+use Rattle.motion.proofs.Cases.{no, yes, holds, and-left, and-right, zero-exponent}
 use Rattle.motion.proofs.Rounding.{unique}
 
 -- finite floats: what has a sign first, then by size
@@ -21,22 +21,37 @@ earlier false a true b = false
 earlier true a false b = true
 earlier true a true b = ltb b a
 
+plain : (b : Bool) → (b || false) ≡ b
+plain true = refl
+plain false = refl
+
+either : (q l : Bool) → l ≡ true → cond q true (l || false) ≡ true
+either true l h = refl
+either false l h = plain l ∙ h
+
 before-fin : (s : Bool) (m : ℕ) (e : ℤ) (t : Bool) (n : ℕ) (d : ℤ) → F64.totalBefore (fin s m e) (fin t n d) ≡ earlier s (m * up e * down d) t (n * up d * down e)
 unfolding F64.totalBefore F64.isSignNegative lt eq isNan
 before-fin s m e t n d = go s t (m * up e * down d) (n * up d * down e)
   where
-    last : (x y : Bool) → cond x true (cond y false false) ≡ x
-    last true y = refl
-    last false true = refl
-    last false false = refl
-
-    go : (s t : Bool) (a b : ℕ) → cond (below s a t b) true (cond (level s a t b) (s && not t) false) ≡ earlier s a t b
-    go false false a b = last (ltb a b) (level false a false b)
-    go false true a b = last false (level false a true b)
-    go true true a b = last (ltb b a) (level true a true b)
+    go : (s t : Bool) (a b : ℕ) → cond (level s a t b) (s && not t) (below s a t b || false) ≡ earlier s a t b
+    go false false a b = by (eqb a b) refl
+      where
+        by : (q : Bool) → eqb a b ≡ q → cond (q && true) false (ltb a b || false) ≡ ltb a b
+        by true e = sym (le-ltb a b (omega (arith, eqb-true a b e)))
+        by false e = plain (ltb a b)
+    go true true a b = by (eqb a b) refl
+      where
+        by : (q : Bool) → eqb a b ≡ q → cond (q && true) false (ltb b a || false) ≡ ltb b a
+        by true e = sym (le-ltb b a (omega (arith, eqb-true a b e)))
+        by false e = plain (ltb b a)
+    go false true a b = by (eqb a b && eqb a 0)
+      where
+        by : (q : Bool) → cond q false false ≡ false
+        by true = refl
+        by false = refl
     go true false zero zero = refl
-    go true false zero (suc b) = rw (lt-ltb 0 (0 + suc b) (omega arith))
-    go true false (suc a) b = rw (lt-ltb 0 (suc a + b) (omega arith))
+    go true false zero (suc b) = either (eqb 0 (suc b) && eqb 0 0) (ltb 0 (0 + suc b)) (lt-ltb 0 (0 + suc b) (omega arith))
+    go true false (suc a) b = either (eqb (suc a) b && eqb (suc a) 0) (ltb 0 (suc a + b)) (lt-ltb 0 (suc a + b) (omega arith))
 
 -- a / e < b / d and b / d < c / g
 chain : (a b c e d g : ℕ) → 0 < e → 0 < d → 0 < g → a * d < b * e → b * g < c * d → a * g < c * e
@@ -157,7 +172,7 @@ zeros s r zero e zero d t u p q = rw (zero-exponent s e t, zero-exponent r d u) 
     go false true = refl
     go false false = refl
 
-equal-bits : (x y : Float) → IsF64 x → IsF64 y → eq x y ≡ true → ltb (F64.numberBits y) (F64.numberBits x) ≡ (F64.isSignNegative x && not (F64.isSignNegative y))
+pub equal-bits : (x y : Float) → IsF64 x → IsF64 y → eq x y ≡ true → ltb (F64.numberBits y) (F64.numberBits x) ≡ (F64.isSignNegative x && not (F64.isSignNegative y))
 unfolding F64.numberBits F64.isSignNegative isNan eq
 equal-bits nan y t u h = no h
 equal-bits (inf s) nan t u h = no h
@@ -185,31 +200,3 @@ equal-bits (fin s m e) (fin r n d) t u h = go s r t u (and-right (eqb (m * up e 
     go false false t u k = alike false m e n d t u same
     go true false t u k = apart true false t u k
     go false true t u k = apart false true t u k
-
--- what compares equal is no NaN
-equal-number : (x y : Float) → eq x y ≡ true → isNan y ≡ false
-unfolding eq isNan
-equal-number nan y h = no h
-equal-number (inf s) nan h = no h
-equal-number (inf s) (inf r) h = refl
-equal-number (inf s) (fin r n d) h = refl
-equal-number (fin s m e) nan h = no h
-equal-number (fin s m e) (inf r) h = refl
-equal-number (fin s m e) (fin r n d) h = refl
-
-pub total-by-bits : (x y : Float) → IsF64 x → IsF64 y
-    → (lt x y || (eq x y && ltb (F64.numberBits y) (F64.numberBits x)) || (eq x x && ne y y)) ≡ F64.totalBefore x y
-unfolding F64.totalBefore
-total-by-bits x y t u = rw (eq-self x, ne-self y) (go (lt x y) (eq x y) refl)
-  where
-    third : (a b c : Bool) → c ≡ false → (a || (b && c)) ≡ a
-    third true b c h = refl
-    third false true c h = h
-    third false false c h = refl
-
-    go : (l q : Bool) → eq x y ≡ q
-        → (l || (q && ltb (F64.numberBits y) (F64.numberBits x)) || (not (isNan x) && isNan y))
-        ≡ cond l true (cond q (F64.isSignNegative x && not (F64.isSignNegative y)) (not (isNan x) && isNan y))
-    go true q e = refl
-    go false false e = refl
-    go false true e = third _ (not (isNan x)) (isNan y) (equal-number x y e) ∙ equal-bits x y t u e

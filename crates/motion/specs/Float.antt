@@ -1,6 +1,6 @@
 -- f64's methods as the pages of Rust's standard library describe them, over the logic's IEEE 754 (lib.Ieee).
 -- There is one nan, with no sign and no payload: where a page speaks of a NaN's sign or bits, they are left open here.
-use mathlib.Core.Bool.{Bool, true, false, not, _&&_, cond}
+use mathlib.Core.Bool.{Bool, true, false, not, _&&_, _||_, cond}
 use Prim.Native.Nat.{ℕ}
 use lib.IntN.{pos}
 use lib.Ieee.{Float, nan, inf, fin, binary64, add, rem, lt, eq, isNan, ofBits, toBits}
@@ -64,7 +64,7 @@ isSignNegative (fin s m e) = s
 -- f64::total_cmp is Less. The page's order: negative infinity, negative numbers, negative zero, positive zero, positive numbers,
 -- positive infinity, positive NaN. A negative NaN, which stands first there, has no name here.
 unfoldable pub totalBefore : Float → Float → Bool
-totalBefore x y = cond (lt x y) true (cond (eq x y) (isSignNegative x && not (isSignNegative y)) (not (isNan x) && isNan y))
+totalBefore x y = cond (eq x y) (isSignNegative x && not (isSignNegative y)) (lt x y || (not (isNan x) && isNan y))
 
 -- a helper's answer: f64::to_bits of a number, and 0 at the nan, whose bits are left open
 unfoldable pub numberBits : Float → ℕ

@@ -86,5 +86,8 @@ fn number_bits(x: f64) -> u64
 pub fn total_before(x: f64, y: f64) -> bool
     ensures { λ r. ⌜ r ≡ Float.totalBefore x y ⌝ }
 {
-    (x < y) | (x == y) & (number_bits(x) > number_bits(y)) | (x == x) & (y != y)
+    if x == y {
+        return number_bits(x) > number_bits(y);
+    }
+    (x < y) | (x == x) & (y != y)
 }

@@ -1,12 +1,20 @@
 -- `motion::float::total_before` meets its contract. Assumes nothing.
-use Rattle.motion.proofs.Total.{total-by-bits}
+use Rattle.motion.specs.Float as F64
+use Rattle.motion.proofs.Cases.{eq-self, ne-self}
+use Rattle.motion.proofs.Total.{equal-bits}
 use Rattle.motion.proofs.float.total_before.Statement.{statement}
 use Rattle.motion.proofs.float.total_before.Tie as tie
 
 returns : tie.Need-returns
+unfolding F64.totalBefore
 returns c =
-    let start = c .before .before in
-    rw (c .before .number-bits .ensures, c .number-bits2 .ensures) (total-by-bits (start .args .x) (start .args .y) (start .good .0 .1) (start .good .1 .0 .1))
+    let b = c .before .before in
+    let start = b .before in
+    rw (b .if1 .taken, c .before .number-bits .ensures, c .number-bits2 .ensures) (equal-bits (start .args .x) (start .args .y) (start .good .0 .1) (start .good .1 .0 .1) (b .if1 .taken))
+
+returns-2 : tie.Need-returns-2
+unfolding F64.totalBefore
+returns-2 c = rw (c .if1 .left, ← eq-self (c .before .args .x), ← ne-self (c .before .args .y))
 
 pub total-before-spec : {M : Type 1} → statement M
-total-before-spec = tie.close (tie.spec (λ c κs. tt) (λ c κs. tt) returns)
+total-before-spec = tie.close (tie.spec (λ c κs. tt) (λ c κs. tt) returns returns-2)
