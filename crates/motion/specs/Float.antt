@@ -66,6 +66,6 @@ isSignNegative (fin s m e) = s
 unfoldable pub totalBefore : Float → Float → Bool
 totalBefore x y = cond (eq x y) (isSignNegative x && not (isSignNegative y)) (lt x y || (not (isNan x) && isNan y))
 
--- a helper's answer: f64::to_bits of a number, and 0 at the nan, whose bits are left open
+-- f64::to_bits of a number, and 0 at the nan, whose bits are left open
 unfoldable pub numberBits : Float → ℕ
 numberBits x = cond (isNan x) 0 (toBits binary64 x)

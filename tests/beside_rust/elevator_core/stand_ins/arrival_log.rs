@@ -1,4 +1,4 @@
-//! Stand-in for arrival_log.rs: read by dispatch and reposition strategies alone. Nothing is logged.
+//! Stand-in for arrival_log.rs: read by strategies alone. Nothing is logged.
 
 use crate::entity::EntityId;
 
