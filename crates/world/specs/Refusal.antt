@@ -1,0 +1,19 @@
+-- The paper's number of each refusal.
+use Prim.Native.Nat.{ℕ}
+use Rattle.world.specs.declared.refusal.Refusal.{Refusal}
+use Rattle.world.specs.declared.refusal.Refusal.the-variants.{BrokenWorld, CutShort, UnknownKind, FieldOutside, FloatOutside, LogKind, NotNow, NotNext, NotLoaded, CannotGo, QueueFull, LastTick, LogShort}
+
+abbrev pub refusalNumber : Refusal → ℕ
+refusalNumber BrokenWorld = 0
+refusalNumber CutShort = 1
+refusalNumber UnknownKind = 2
+refusalNumber FieldOutside = 3
+refusalNumber FloatOutside = 4
+refusalNumber LogKind = 5
+refusalNumber NotNow = 6
+refusalNumber NotNext = 7
+refusalNumber NotLoaded = 8
+refusalNumber CannotGo = 9
+refusalNumber QueueFull = 10
+refusalNumber LastTick = 11
+refusalNumber LogShort = 12
