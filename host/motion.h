@@ -11,7 +11,7 @@ typedef struct {
     bool arrived;    /* whether it stands at its target */
 } MovementResult;
 
-/* p on the circle: from 0 up to, not with, circumference. */
+/* p brought into [0, circumference). */
 double wrap_position(double p, double circumference);
 
 /* The way forward from `from` to `to` along a loop. */
@@ -20,7 +20,7 @@ double forward_distance(double from, double to, double circumference);
 /* The shorter way between a and b along a loop. */
 double cyclic_distance(double a, double b, double circumference);
 
-/* The distance to brake to a stop; 0 without a deceleration. */
+/* The distance to brake to a stop; 0 where the deceleration is 0 or below. */
 double braking_distance(double velocity, double deceleration);
 
 /* The target a trailing car may aim at: its own, or as far as the headway behind the leader. */

@@ -10,20 +10,6 @@ use Rattle.door.specs.declared.DoorTransition.the-variants.{None, Finish
 
 -- A state's numbers, in the order of door.rs: ticks remaining, open duration `od`, close duration `cd`.
 
--- door.rs, DoorState::request_open
-abbrev pub requestOpen : ℕ → ℕ → DoorState
-requestOpen transition-ticks open-ticks = Opening transition-ticks open-ticks transition-ticks
-
-abbrev pub ticked : DoorState → DoorTransition → Ticked
-ticked d t = record { door = d; transition = t }
-
--- door.rs, DoorState::tick
-abbrev pub tick : DoorState → Ticked
-tick Closed = ticked Closed None
-tick (Opening ticks od cd) = cond (leb ticks 1) (ticked (Open od cd) FinishedOpening) (ticked (Opening (ticks - 1) od cd) None)
-tick (Open ticks cd) = cond (leb ticks 1) (ticked (Closing cd) FinishedOpen) (ticked (Open (ticks - 1) cd) None)
-tick (Closing ticks) = cond (leb ticks 1) (ticked Closed FinishedClosing) (ticked (Closing (ticks - 1)) None)
-
 -- door.rs, DoorState::is_open
 abbrev pub isOpen : DoorState → Bool
 isOpen Closed = false
@@ -37,3 +23,18 @@ isClosed Closed = true
 isClosed (Opening ticks od cd) = false
 isClosed (Open ticks cd) = false
 isClosed (Closing ticks) = false
+
+-- door.rs, DoorState::request_open
+abbrev pub requestOpen : ℕ → ℕ → DoorState
+requestOpen transition-ticks open-ticks = Opening transition-ticks open-ticks transition-ticks
+
+-- a door and the transition of its tick
+abbrev pub ticked : DoorState → DoorTransition → Ticked
+ticked d t = record { door = d; transition = t }
+
+-- door.rs, DoorState::tick
+abbrev pub tick : DoorState → Ticked
+tick Closed = ticked Closed None
+tick (Opening ticks od cd) = cond (leb ticks 1) (ticked (Open od cd) FinishedOpening) (ticked (Opening (ticks - 1) od cd) None)
+tick (Open ticks cd) = cond (leb ticks 1) (ticked (Closing cd) FinishedOpen) (ticked (Open (ticks - 1) cd) None)
+tick (Closing ticks) = cond (leb ticks 1) (ticked Closed FinishedClosing) (ticked (Closing (ticks - 1)) None)

@@ -45,6 +45,30 @@ pub struct Ticked {
 }
 
 impl DoorState {
+    // Fully open.
+    pub fn is_open(self) -> bool
+        ensures { λ r. ⌜ r ≡ isOpen self ⌝ }
+    {
+        match self {
+            DoorState::Closed => false,
+            DoorState::Opening { .. } => false,
+            DoorState::Open { .. } => true,
+            DoorState::Closing { .. } => false,
+        }
+    }
+
+    // Fully closed.
+    pub fn is_closed(self) -> bool
+        ensures { λ r. ⌜ r ≡ isClosed self ⌝ }
+    {
+        match self {
+            DoorState::Closed => true,
+            DoorState::Opening { .. } => false,
+            DoorState::Open { .. } => false,
+            DoorState::Closing { .. } => false,
+        }
+    }
+
     // Begins to open: the closing will take as long as the opening.
     pub fn request_open(transition_ticks: u32, open_ticks: u32) -> DoorState
         ensures { λ r. ⌜ r ≡ requestOpen «transition_ticks» «open_ticks» ⌝ }
@@ -75,28 +99,6 @@ impl DoorState {
                 close_duration,
             } => tick_open(ticks_remaining, close_duration),
             DoorState::Closing { ticks_remaining } => tick_closing(ticks_remaining),
-        }
-    }
-
-    pub fn is_open(self) -> bool
-        ensures { λ r. ⌜ r ≡ isOpen self ⌝ }
-    {
-        match self {
-            DoorState::Closed => false,
-            DoorState::Opening { .. } => false,
-            DoorState::Open { .. } => true,
-            DoorState::Closing { .. } => false,
-        }
-    }
-
-    pub fn is_closed(self) -> bool
-        ensures { λ r. ⌜ r ≡ isClosed self ⌝ }
-    {
-        match self {
-            DoorState::Closed => true,
-            DoorState::Opening { .. } => false,
-            DoorState::Open { .. } => false,
-            DoorState::Closing { .. } => false,
         }
     }
 }

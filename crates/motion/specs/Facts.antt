@@ -1,4 +1,4 @@
--- Facts of the formulas that hold on every circle and for every float. The function `facts` carries them.
+-- Facts of the formulas over any circle, and over any float that each names. The function `facts` carries them.
 use mathlib.Core.Path.{_≡_}
 use mathlib.Core.Bool.{true, false}
 use lib.Ieee.{Float, inf, ofBits, binary64, add, sub, lt, le, isNan, fits}
@@ -22,7 +22,7 @@ InCircle x c = (le zero x ≡ true) × (lt x c ≡ true)
 unfoldable pub WrapInCircle : Type 0
 WrapInCircle = (p c : Float) → IsCircle c → isFinite p ≡ true → InCircle (wrapPosition p c) c
 
--- forward_distance lies in [0, c] whatever the positions: the whole circle is possible, as from 1e-20 to 0
+-- forward_distance lies in [0, c] whatever the positions: the whole circle is possible, as from 1e-20 to 0 on 10
 unfoldable pub ForwardInCircle : Type 0
 ForwardInCircle = (from to c : Float) → IsCircle c → (le zero (forwardDistance from to c) ≡ true) × (le (forwardDistance from to c) c ≡ true)
 
@@ -31,7 +31,7 @@ unfoldable pub ForwardIsNumber : Type 0
 ForwardIsNumber = (from to c : Float) → IsF64 c → isNan (forwardDistance from to c) ≡ false
 
 -- headway_clamp_target of finite arguments lies in [0, c) where twice the circle is finite too.
--- On a larger circle trailer + safe_advance can be infinite, and so is the answer, in the Rust as here (docs/DIFFERENCES.md).
+-- On a larger circle trailer + safe_advance can be infinite, and so is the answer, in the Rust as here (docs/DECISIONS.md).
 unfoldable pub HeadwayInCircle : Type 0
 HeadwayInCircle = (trailer leader intended headway c : Float) → IsCircle c → isFinite (add binary64 c c) ≡ true
     → isFinite trailer ≡ true → isFinite intended ≡ true → isFinite headway ≡ true → InCircle (headwayClampTarget trailer leader intended headway c) c

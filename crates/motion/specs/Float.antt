@@ -1,5 +1,5 @@
 -- f64's methods as the pages of Rust's standard library describe them, over the logic's IEEE 754 (lib.Ieee).
--- There is one nan, with no sign and no payload: where a page speaks of a NaN's sign or bits, they are left open here.
+-- There is one nan, with no sign and no payload: what a page says of a NaN's sign or bits cannot be said here.
 use mathlib.Core.Bool.{Bool, true, false, not, _&&_, _||_, cond}
 use Prim.Native.Nat.{ℕ}
 use lib.IntN.{pos}
@@ -37,7 +37,7 @@ isFinite nan = false
 isFinite (inf s) = false
 isFinite (fin s m e) = true
 
--- f64::max, "if one of the arguments is NaN, then the other argument is returned".
+-- f64::max, "if exactly one of the arguments is NaN, then the other argument is returned".
 -- The page leaves open which of +0 and -0 is returned; here it is the second.
 unfoldable pub max : Float → Float → Float
 max x y = cond (isNan y) x (cond (lt y x) x y)
@@ -47,11 +47,12 @@ unfoldable pub min : Float → Float → Float
 min x y = cond (isNan y) x (cond (lt x y) x y)
 
 -- f64::clamp, "max if self is greater than max, and min if self is less than min. Otherwise self".
--- The page lets it panic where min > max or one of them is NaN; here the same two tests give an answer there.
+-- The page leaves open which zero is returned where the result is zero and zeros of both signs are among the three; here it is what
+-- the source's two tests give. It panics where min > max or one of them is NaN; here the same two tests give an answer.
 unfoldable pub clamp : Float → Float → Float → Float
 clamp x least most = let y = cond (lt x least) least x in cond (lt most y) most y
 
--- f64::rem_euclid, "the least nonnegative remainder of self (mod rhs)", by its source: r = self % rhs, and r + |rhs| if r < 0
+-- f64::rem_euclid, "the least nonnegative remainder of self when divided by rhs", by its source: r = self % rhs, and r + |rhs| if r < 0
 unfoldable pub remEuclid : Float → Float → Float
 remEuclid x rhs = let r = rem binary64 x rhs in cond (lt r zero) (add binary64 r (abs rhs)) r
 
@@ -62,7 +63,7 @@ isSignNegative (inf s) = s
 isSignNegative (fin s m e) = s
 
 -- f64::total_cmp is Less. The page's order: negative infinity, negative numbers, negative zero, positive zero, positive numbers,
--- positive infinity, positive NaN. A negative NaN, which stands first there, has no name here.
+-- positive infinity, positive NaN. The one nan is taken as positive; a negative NaN, which stands first there, has no name here.
 unfoldable pub totalBefore : Float → Float → Bool
 totalBefore x y = cond (eq x y) (isSignNegative x && not (isSignNegative y)) (lt x y || (not (isNan x) && isNan y))
 

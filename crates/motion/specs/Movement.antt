@@ -40,23 +40,24 @@ newVelocity displacement sign velocity maxSpeed acceleration deceleration dt =
     (decelerated velocity safeDecel dt)
     (cond (lt speed maxSpeed) (accelerated velocity sign maxSpeed acceleration dt) (mul binary64 sign maxSpeed))
 
+-- movement.rs, tick_movement's answer on arrival
 abbrev pub arrivedAt : Float → MovementResult
 arrivedAt target = record { position = target; velocity = zero; arrived = true }
 
 -- movement.rs, tick_movement
 unfoldable pub tickMovement : Float → Float → Float → Float → Float → Float → Float → MovementResult
-tickMovement position velocity target maxSpeed acceleration deceleration dt =
-    let displacement = sub binary64 target position in
+tickMovement position velocity targetPosition maxSpeed acceleration deceleration dt =
+    let displacement = sub binary64 targetPosition position in
     let sign = signum displacement in
     let newV = newVelocity displacement sign velocity maxSpeed acceleration deceleration dt in
     let newPos = fma newV dt position in
-    let newDisplacement = sub binary64 target newPos in
+    let newDisplacement = sub binary64 targetPosition newPos in
     cond
     (lt (abs displacement) epsilon && lt (abs velocity) epsilon)
-    (arrivedAt target)
+    (arrivedAt targetPosition)
     (cond
     (lt (abs newDisplacement) epsilon || lt epsilon (abs (sub binary64 (signum newDisplacement) sign)))
-    (arrivedAt target)
+    (arrivedAt targetPosition)
     (record { position = newPos; velocity = newV; arrived = false }))
 
 -- movement.rs, tick_movement_cyclic
@@ -88,7 +89,7 @@ headwayClampTarget trailerPosition leaderPosition intendedTarget minHeadway circ
     intendedTarget
     (cond (le intendedAdvance safeAdvance) intended (wrapPosition (add binary64 trailer safeAdvance) circumference))
 
--- systems/movement.rs, tick_manual: from `target.clamp` to `new_vel`
+-- systems/movement.rs, tick_manual: from `target.clamp` to `new_vel`. The Rust's clamp panics at a max speed below 0 or NaN, which no record brings.
 unfoldable pub manualVelocity : Float → Float → Float → Float → Float → Float → Float
 manualVelocity wanted vel maxSpeed accel decel dt =
     let target = clamp wanted (neg maxSpeed) maxSpeed in

@@ -17,7 +17,7 @@ pub extern "C" fn wrap_position(p: f64, circumference: f64) -> f64
     if r >= circumference { 0.0 } else { r }
 }
 
-// The one-way distance ahead from `from` to `to`; 0 where an argument is no place on a circle.
+// The one-way distance ahead from `from` to `to`; 0 where there is no circle or a position is not finite.
 #[no_mangle]
 pub extern "C" fn forward_distance(from: f64, to: f64, circumference: f64) -> f64
     ensures { λ r. ⌜ r ≡ Cyclic.forwardDistance from to circumference ⌝ }

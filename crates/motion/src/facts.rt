@@ -1,4 +1,4 @@
-// Facts of the formulas, over any circle and any float, that later proofs rest on.
+// Facts of the formulas, over any circle, that later proofs rest on.
 ghost use mathlib.Core.Path.{_≡_};
 ghost use mathlib.Core.Bool.{true};
 ghost use Rattle.motion.specs.Facts.{Facts};

@@ -82,7 +82,7 @@ fn number_bits(x: f64) -> u64
     if x != x { 0 } else { f64::to_bits(x) }
 }
 
-// Whether f64::total_cmp of x and y is Less. Of two equal numbers with unlike bits, the zeros, -0 has the greater pattern.
+// Whether f64::total_cmp of x and y is Less, a NaN taken as positive. Of two equal numbers with unlike bits, the zeros, -0 has the greater pattern.
 pub fn total_before(x: f64, y: f64) -> bool
     ensures { λ r. ⌜ r ≡ Float.totalBefore x y ⌝ }
 {

@@ -12,7 +12,7 @@ use crate::fp::fma;
 
 const EPSILON: f64 = 1e-9;
 
-// The distance in which a car brakes to a stop; 0 where the rate is not above 0.
+// The distance in which a car brakes to a stop; 0 where the rate is 0 or below.
 #[no_mangle]
 pub extern "C" fn braking_distance(velocity: f64, deceleration: f64) -> f64
     ensures { λ r. ⌜ r ≡ Movement.brakingDistance velocity deceleration ⌝ }
@@ -177,7 +177,7 @@ pub extern "C" fn tick_movement_cyclic(
     }
 }
 
-// The target of a trailing car, held `min_headway` behind its leader.
+// The target of a trailing car: the intended one, or `min_headway` behind its leader where that comes first.
 #[no_mangle]
 pub extern "C" fn headway_clamp_target(
     trailer_position: f64,
@@ -204,7 +204,7 @@ pub extern "C" fn headway_clamp_target(
     }
 }
 
-// tick_manual's new_vel: the velocity that the manual speed `target` asks for, at most one tick's rate away.
+// tick_manual's new_vel: the velocity goes towards the manual speed `target`, by rate * dt at most.
 pub fn manual_velocity(
     target: f64,
     vel: f64,
