@@ -1,2 +1,3 @@
 pub mod World
 pub mod Refusal
+pub mod Sound

@@ -2,6 +2,7 @@
 // It goes in by value and comes back. What lies past a table's count is not looked at.
 pub mod empty; // the empty world
 pub mod refusal; // the refusals and their numbers
+pub mod sound; // what refusal 0 asks
 
 use door::DoorCommand;
 use door::DoorState;

@@ -1,0 +1,44 @@
+-- `world::sound::broken` meets its contract. Assumes nothing.
+use mathlib.Core.Path.{_≡_, sym, _∙_}
+use mathlib.Core.Bool.{false}
+use borrow.Author.Needs.{needs}
+use Rattle.world.specs.Sound.{broken, countsBroken}
+use Rattle.world.proofs.Unbroken.{Counts, counts-fit}
+use Rattle.world.proofs.sound.broken.Statement.{statement}
+use Rattle.world.proofs.sound.broken.Tie as tie
+
+returns : tie.Need-returns
+unfolding broken
+returns c = rw (← c .before .counts-broken .ensures, c .if1 .taken)
+
+-- past the first test the counts fit their tables
+fits : (c : tie.Else1) → Counts (c .before .before .args .world)
+fits c = counts-fit (c .before .before .args .world) (sym (c .before .counts-broken .ensures) ∙ c .if1 .left)
+
+returns-2 : tie.Need-returns-2
+unfolding broken
+returns-2 c =
+    let r = c .before .before in
+    let b = r .before .before .before .before .before .before in
+    rw (
+      ← b .before .counts-broken .ensures,
+      b .if1 .left,
+      r .before .before .lines-broken .ensures,
+      r .before .cars-broken .ensures,
+      r .riders-broken .ensures,
+      c .before .calls-unloaded .ensures,
+      c .calls-unloaded2 .ensures,
+    )
+
+pub broken-spec : {M : Type 1} → statement M
+broken-spec =
+    tie.close
+    (tie.spec
+    (λ c κs. tt)
+    returns
+    (λ c κs. fits (c .before .before .before) .lines)
+    (λ c κs. fits (c .before .before .before .before) .cars)
+    (λ c κs. fits (c .before .before .before .before .before) .riders)
+    (λ c κs. tt)
+    (λ c κs. tt)
+    returns-2)

@@ -1,0 +1,34 @@
+-- `world::sound::car_broken` meets its contract. Assumes nothing.
+use Rattle.world.specs.Sound.{carBroken}
+use borrow.Author.Tests.{lt-ltb, le-ltb}
+use borrow.Author.Needs.{needs}
+use Rattle.world.proofs.sound.car_broken.Statement.{statement}
+use Rattle.world.proofs.sound.car_broken.Tie as tie
+
+returns : tie.Need-returns
+unfolding carBroken
+returns c = rw (lt-ltb 8 (c .before .args .t3 .«destination_count») (c .if1 .taken))
+
+returns-2 : tie.Need-returns-2
+unfolding carBroken
+returns-2 c =
+    let t = c .before .before .before .before in
+    let b = t .before .before .before in
+    rw (
+      le-ltb 8 (b .before .args .t3 .«destination_count») (b .if1 .left),
+      t .before .before .unloaded .ensures,
+      t .before .phase-unloaded .ensures,
+      t .stop-unloaded .ensures,
+      c .one-unloaded .ensures,
+    )
+
+pub car-broken-spec : {M : Type 1} → statement M
+car-broken-spec =
+    tie.close
+    (tie.spec
+    returns
+    (λ c κs. search needs)
+    (λ c κs. search needs)
+    (λ c κs. search needs)
+    (λ c κs. search needs)
+    returns-2)
