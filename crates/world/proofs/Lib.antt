@@ -1,1 +1,2 @@
 pub mod Unbroken
+pub mod Bits

@@ -1,3 +1,4 @@
 pub mod World
 pub mod Refusal
 pub mod Sound
+pub mod Calls

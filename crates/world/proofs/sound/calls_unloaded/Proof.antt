@@ -1,11 +1,11 @@
 -- `world::sound::calls_unloaded` meets its contract. Assumes nothing.
 use mathlib.Core.Path.{sym}
-use Prim.Native.Nat.{_<_, _*_, _^_}
-use native.Mathlib.Nat.{mod-eq-of-lt, one-mul}
+use Prim.Native.Nat.{_^_}
 use native.Mathlib.Omega.{arith}
-use lib.Pow.{pow-mono, pow-lt}
+use lib.Pow.{pow-mono}
 use borrow.Author.Needs.{needs}
 use borrow.Author.Tests.{lt-leb}
+use Rattle.world.proofs.Bits.{bit-of}
 use Rattle.world.proofs.sound.calls_unloaded.Statement.{statement}
 use Rattle.world.proofs.sound.calls_unloaded.Tie as tie
 
@@ -15,10 +15,7 @@ returns c =
     sym (lt-leb (2 ^ stops) (c .before .args .calls) (omega (arith, pow-mono {i = 64} {j = stops} (c .if1 .taken))))
 
 returns-2 : tie.Need-returns-2
-returns-2 c =
-    let stops = c .before .args .stops in
-    let h : 1 * 2 ^ stops < 2 ^ 64 = omega (arith, pow-lt {i = stops} {j = 64} (c .if1 .left), one-mul (2 ^ stops)) in
-    rw (mod-eq-of-lt h, one-mul)
+returns-2 c = rw (bit-of (c .before .args .stops) (c .if1 .left))
 
 pub calls-unloaded-spec : {M : Type 1} → statement M
 calls-unloaded-spec = tie.close (tie.spec returns (λ c. search needs) returns-2)
