@@ -2,3 +2,4 @@ pub mod World
 pub mod Refusal
 pub mod Sound
 pub mod Calls
+pub mod With

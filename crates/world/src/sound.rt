@@ -15,7 +15,8 @@ use crate::RiderPhase;
 use crate::StopOption;
 use crate::World;
 
-fn unloaded(loaded: usize, number: u8) -> bool
+// Whether a number is not loaded: not below the count of its table.
+pub fn unloaded(loaded: usize, number: u8) -> bool
     ensures { λ r. ⌜ r ≡ Sound.unloaded loaded number ⌝ }
 {
     loaded <= number as usize
@@ -91,7 +92,8 @@ fn one_unloaded(numbers: &[u8], count: usize, loaded: usize) -> bool
     found
 }
 
-fn line_broken(stops: usize, line: Line) -> bool
+// Whether a line has more listed stops than its table holds, or one that is not loaded.
+pub fn line_broken(stops: usize, line: Line) -> bool
     ensures { λ r. ⌜ r ≡ Sound.lineBroken stops line ⌝ }
 {
     let count = line.serves_count;
@@ -118,7 +120,8 @@ fn car_broken(lines: usize, stops: usize, car: Car) -> bool
         | one_unloaded(&car.destination_queue, count, stops)
 }
 
-fn rider_broken(stops: usize, cars: usize, rider: Rider) -> bool
+// Whether a rider names a stop or a car that is not loaded.
+pub fn rider_broken(stops: usize, cars: usize, rider: Rider) -> bool
     ensures { λ r. ⌜ r ≡ Sound.riderBroken stops cars rider ⌝ }
 {
     let destination = rider.destination;
