@@ -54,12 +54,12 @@ pub fn load_stop(world: World, number: u8, position: f64) -> Changed
     if 64 <= at {
         return refused(world, Refusal::NotNext);
     }
-    if at != world.stop_count {
-        return refused(world, Refusal::NotNext);
-    }
     let mut next = world;
     next.stops[at] = position;
     next.stop_count = at + 1;
+    if at != world.stop_count {
+        return refused(world, Refusal::NotNext); // the table without the height
+    }
     accepted(next)
 }
 

@@ -169,13 +169,13 @@ pub fn queue_command(world: World, car: u8, command: DoorCommand) -> Changed
         return refused(world, Refusal::NotLoaded);
     }
     let mut row = world.cars[at];
-    let count = row.command_count;
-    if 8 <= count {
+    let commands = row.command_count;
+    if 8 <= commands {
         return refused(world, Refusal::QueueFull);
     }
     let queued = QueuedCommand { command };
-    row.door_command_queue[count] = queued;
-    row.command_count = count + 1;
+    row.door_command_queue[commands] = queued;
+    row.command_count = commands + 1;
     let mut next = world;
     next.cars[at] = row;
     accepted(next)
@@ -215,12 +215,12 @@ pub fn push_destination(world: World, car: u8, stop: u8) -> Changed
         return refused(world, Refusal::NotLoaded);
     }
     let mut row = world.cars[at];
-    let count = row.destination_count;
-    if 8 <= count {
+    let destinations = row.destination_count;
+    if 8 <= destinations {
         return refused(world, Refusal::QueueFull);
     }
-    row.destination_queue[count] = stop;
-    row.destination_count = count + 1;
+    row.destination_queue[destinations] = stop;
+    row.destination_count = destinations + 1;
     let mut next = world;
     next.cars[at] = row;
     accepted(next)

@@ -40,15 +40,15 @@ pub load-rider-spec : {M : Type 1} → statement M
 load-rider-spec =
     tie.close
     (tie.spec
-    (λ c κs. search needs)
+    (λ c κs. tt)
     returns
-    (λ c κs. search needs)
+    (λ c κs. tt)
     returns-2
-    (λ c κs. search needs)
-    (λ c κs. search needs)
+    (λ c κs. tt)
+    (λ c κs. tt)
     returns-3
     (λ c. search needs)
     (λ c. search needs)
-    (λ c κs. search needs)
-    (λ c κs. search needs)
+    (λ c κs. tt)
+    (λ c κs. tt)
     returns-4)

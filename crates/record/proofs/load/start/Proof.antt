@@ -15,4 +15,4 @@ unfolding start
 returns-2 c = c .accepted .ensures ∙ rw (c .before .if1 .left)
 
 pub start-spec : {M : Type 1} → statement M
-start-spec = tie.close (tie.spec (λ c κs. search needs) returns (λ c κs. search needs) returns-2)
+start-spec = tie.close (tie.spec (λ c κs. tt) returns (λ c κs. search needs) returns-2)

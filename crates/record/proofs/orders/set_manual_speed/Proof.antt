@@ -40,17 +40,17 @@ pub set-manual-speed-spec : {M : Type 1} → statement M
 set-manual-speed-spec =
     tie.close
     (tie.spec
-    (λ c κs. search needs)
+    (λ c κs. tt)
     returns
-    (λ c κs. search needs)
+    (λ c κs. tt)
     returns-2
-    (λ c κs. search needs)
-    (λ c κs. search needs)
+    (λ c κs. tt)
+    (λ c κs. tt)
     returns-3
     (λ c. search needs)
     (λ c. search needs)
-    (λ c κs. search needs)
+    (λ c κs. tt)
     (λ c. search needs)
     (λ c. search needs)
-    (λ c κs. search needs)
+    (λ c κs. tt)
     returns-4)

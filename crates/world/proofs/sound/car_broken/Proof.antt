@@ -27,8 +27,8 @@ car-broken-spec =
     tie.close
     (tie.spec
     returns
-    (λ c κs. search needs)
-    (λ c κs. search needs)
-    (λ c κs. search needs)
+    (λ c κs. tt)
+    (λ c κs. tt)
+    (λ c κs. tt)
     (λ c κs. search needs)
     returns-2)

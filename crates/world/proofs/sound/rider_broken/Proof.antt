@@ -11,4 +11,4 @@ returns c = rw (c .before .before .stop-unloaded .ensures, c .before .rider-phas
 pub rider-broken-spec : {M : Type 1} → statement M
 rider-broken-spec =
     tie.close
-    (tie.spec (λ c κs. search needs) (λ c κs. search needs) (λ c κs. search needs) returns)
+    (tie.spec (λ c κs. tt) (λ c κs. search needs) (λ c κs. search needs) returns)
