@@ -2,6 +2,8 @@
 use mathlib.Core.Path.{_≡_}
 use mathlib.Core.Bool.{true, false}
 use mathlib.Core.List.{List, [], _∷_}
+use Prim.Native.Nat.{ℕ}
+use lib.ListN.{length}
 use lib.Ieee.{Float, binary64, ofBits}
 use Rattle.motion.specs.Float.{zero, one, two}
 use Rattle.motion.specs.Cyclic.{wrapPosition, forwardDistance}
@@ -11,6 +13,9 @@ use Rattle.door.specs.Door.{requestOpen}
 use Rattle.door.specs.Phases.{transitionAt}
 use Rattle.door.specs.declared.DoorTransition.{DoorTransition}
 use Rattle.door.specs.declared.DoorTransition.the-variants.{FinishedOpening, FinishedOpen, FinishedClosing}
+use Rattle.world.specs.Stops.{loopNextStopForward}
+use Rattle.world.specs.declared.StopOption.{StopOption}
+use Rattle.world.specs.declared.StopOption.the-variants.{NoStop, Stop}
 
 -- ---- the numbers
 
@@ -35,6 +40,9 @@ three = ofBits binary64 0x4008_0000_0000_0000
 abbrev four : Float
 four = ofBits binary64 0x4010_0000_0000_0000
 
+abbrev seven : Float
+seven = ofBits binary64 0x401c_0000_0000_0000
+
 abbrev nine : Float
 nine = ofBits binary64 0x4022_0000_0000_0000
 
@@ -58,6 +66,7 @@ minus-tiny = ofBits binary64 0xbbc7_9ca1_0c92_4223
 pub data Answer : Type 0 where
   moved : MovementResult → Answer
   place : Float → Answer
+  next : StopOption → Answer
   turn : DoorTransition → Answer
 
 pub record Example : Type 0 where
@@ -77,6 +86,10 @@ moving position velocity = moved (record { position = position; velocity = veloc
 abbrev arrived : Float → Answer
 arrived position = moved (record { position = position; velocity = zero; arrived = true })
 
+-- stop 0 at 0, 1 at 4 and 2 at 7 on a circle of 10: the next stop from 4 of a line that serves these
+abbrev nextFromFour : List ℕ → Answer
+nextFromFour serves = next (loopNextStopForward (zero ∷ four ∷ seven ∷ []) ten serves (length serves) four)
+
 abbrev pub examples : List Example
 examples =
     -- (0, 0, to 10) gives 0.25, 0.5, moving
@@ -95,6 +108,10 @@ examples =
     ∷ example (place (forwardDistance tiny zero ten)) (place ten)
     -- headway (trailer 0, leader 4, target 9, headway 3, circle 10) = 1
     ∷ example (place (headwayClampTarget zero four nine three ten)) (place one)
+    -- next from 4 among 0, 4, 7 on 10 is 7
+    ∷ example (nextFromFour (0 ∷ 1 ∷ 2 ∷ [])) (next (Stop 2))
+    -- among 4 only, 4
+    ∷ example (nextFromFour (1 ∷ [])) (next (Stop 1))
     -- request_open(0, 0) ends phases at ticks 1, 2, 3
     ∷ example (turn (transitionAt 1 (requestOpen 0 0))) (turn FinishedOpening)
     ∷ example (turn (transitionAt 2 (requestOpen 0 0))) (turn FinishedOpen)

@@ -1,5 +1,9 @@
 pub mod World
+pub mod With
 pub mod Refusal
 pub mod Sound
 pub mod Calls
-pub mod With
+pub mod Stops
+pub mod Leader
+pub mod Ahead
+pub mod Sorted

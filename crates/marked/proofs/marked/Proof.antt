@@ -5,13 +5,14 @@ use Rattle.motion.specs.Float.{abs, signum, isFinite, max, remEuclid}
 use Rattle.motion.specs.Cyclic.{wrapPosition, forwardDistance}
 use Rattle.motion.specs.Movement.{decelerated, accelerated, newVelocity, tickMovement, headwayClampTarget}
 use Rattle.door.specs.Phases.{after, transitionAt}
+use Rattle.world.specs.Stops.{aheadOf, nearestTo, loopNextStopForward}
 use Rattle.marked.specs.Marked.{Marked, Hold}
 use Rattle.marked.proofs.marked.Statement.{statement}
 use Rattle.marked.proofs.marked.Tie as tie
 
 examples-hold : Marked
-unfolding Marked Hold tickMovement newVelocity decelerated accelerated wrapPosition forwardDistance headwayClampTarget transitionAt after abs signum isFinite max remEuclid ofBits add sub mul div rem neg lt le eq isNan
-examples-hold = (refl, (refl, (refl, (refl, (refl, (refl, (refl, (refl, (refl, (refl, (refl, tt)))))))))))
+unfolding Marked Hold tickMovement newVelocity decelerated accelerated wrapPosition forwardDistance headwayClampTarget transitionAt after loopNextStopForward nearestTo aheadOf abs signum isFinite max remEuclid ofBits add sub mul div rem neg lt le eq isNan
+examples-hold = (refl, (refl, (refl, (refl, (refl, (refl, (refl, (refl, (refl, (refl, (refl, (refl, (refl, tt)))))))))))))
 
 pub marked-spec : {M : Type 1} → statement M
 marked-spec = tie.close (tie.spec (λ c. (refl, examples-hold)))

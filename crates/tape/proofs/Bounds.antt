@@ -1,0 +1,91 @@
+-- A refusal is 1 to 4, and a record takes no more words than there are. Assumes nothing.
+use mathlib.Core.Path.{_≡_, refl}
+use mathlib.Core.Bool.{Bool, true, false, _&&_, cond}
+use mathlib.Core.List.{List, [], _∷_}
+use Prim.Native.Nat.{ℕ, _+_, _<_, _≤_}
+use native.Mathlib.Omega.{arith}
+use lib.Dec.{ltb, leb, eqb}
+use lib.ListN.{length, getD}
+use borrow.Author.Tests.{ltb-false, leb-true, eqb-false}
+use Rattle.world.specs.Refusal.{refusalNumber}
+use Rattle.world.specs.declared.refusal.Refusal.{Refusal}
+use Rattle.world.specs.declared.refusal.Refusal.the-variants.{CutShort, UnknownKind}
+use Rattle.motion.proofs.Cases.{and-left, and-right}
+use Rattle.tape.specs.declared.head.Head.{Head}
+use Rattle.tape.specs.declared.Decoded.{Decoded}
+use Rattle.tape.specs.Tape.{Check, Deed, Kind, kindIn, kinds, refusal, refused, unless, answer, headOf, servesCount, lineRecord, stopRecord, carRecord, riderRecord, sendRecord, modeRecord, manualSpeedRecord, doorCommandRecord, hallCallRecord, destinationRecord, enableRecord, tickRecord, startRecord, recordOf, decoded}
+use Rattle.tape.specs.Facts.{InBounds, Facts}
+
+-- every refusal of the checks is 1 to 4
+abbrev known : List Check → Bool
+known [] = true
+known (c ∷ cs) = (leb 1 (refusalNumber (c .answer)) && leb (refusalNumber (c .answer)) 4) && known cs
+
+abbrev Passed : List Check → Type 0
+Passed [] = Unit
+Passed (c ∷ cs) = (c .holds ≡ false) × Passed cs
+
+module _ (ws : List ℕ) where
+  abbrev Fine : Decoded → Type 0
+  Fine d = InBounds ws (d .read)
+
+  refused-in : (r : Refusal) → (leb 1 (refusalNumber r) && leb (refusalNumber r) 4) ≡ true → Fine (refused r)
+  refused-in r e =
+      (leb-true 1 (refusalNumber r) (and-left (leb 1 (refusalNumber r)) (leb (refusalNumber r) 4) e), leb-true (refusalNumber r) 4 (and-right (leb 1 (refusalNumber r)) (leb (refusalNumber r) 4) e))
+
+  unless-in : (cs : List Check) (d : Decoded) → known cs ≡ true → (Passed cs → Fine d) → Fine (unless cs d)
+  unless-in [] d e h = h tt
+  unless-in (c ∷ cs) d e h =
+      let n = leb 1 (refusalNumber (c .answer)) && leb (refusalNumber (c .answer)) 4 in
+      either (c .holds) (refused-in (c .answer) (and-left n (known cs) e)) (λ f. unless-in cs d (and-right n (known cs) e) (λ q. h (f, q)))
+    where
+      either : (b : Bool) → Fine (refused (c .answer)) → (b ≡ false → Fine (unless cs d)) → Fine (cond b (refused (c .answer)) (unless cs d))
+      either true p q = p
+      either false p q = q refl
+
+  infixr 5 _and_
+  data AllFine : List Kind → Type 0 where
+    end : AllFine []
+    _and_ : {t : Kind} {ts : List Kind} → Fine (answer (t .deed)) → AllFine ts → AllFine (t ∷ ts)
+
+  kind-in : (k : ℕ) (ts : List Kind) → AllFine ts → Fine (kindIn k ts)
+  kind-in k [] end = refused-in UnknownKind refl
+  kind-in k (t ∷ ts) (p and u) = either (eqb k (t .number)) (kind-in k ts u)
+    where
+      either : (b : Bool) → Fine (kindIn k ts) → Fine (cond b (answer (t .deed)) (kindIn k ts))
+      either true q = p
+      either false q = q
+
+  -- a record of so many words
+  enough : (used : ℕ) → 0 < used → ltb (length ws) used ≡ false → (0 < used) × (used ≤ length ws)
+  enough used p e = (p, ltb-false (length ws) used e)
+
+  record-in : (h : Head) → 0 < length ws → Fine (recordOf h ws)
+  unfolding recordOf lineRecord
+  record-in h p =
+      kind-in (h .kind) (kinds h ws)
+      (deed (lineRecord h ws) refl (λ q. enough (5 + servesCount (h .v)) (omega arith) (q .1 .0))
+      and deed (stopRecord h ws) refl (λ q. enough 3 (omega arith) (q .0))
+      and deed (carRecord h ws) refl (λ q. enough 15 (omega arith) (q .0))
+      and deed (riderRecord h ws) refl (λ q. enough 2 (omega arith) (q .0))
+      and deed (sendRecord h) refl (λ q. (omega arith, p))
+      and deed (modeRecord h) refl (λ q. (omega arith, p))
+      and deed (manualSpeedRecord h ws) refl (λ q. enough 3 (omega arith) (q .0))
+      and deed (doorCommandRecord h) refl (λ q. (omega arith, p))
+      and deed (hallCallRecord h) refl (λ q. (omega arith, p))
+      and deed (destinationRecord h) refl (λ q. (omega arith, p))
+      and deed (enableRecord h) refl (λ q. (omega arith, p))
+      and deed (tickRecord h ws) refl (λ q. enough 3 (omega arith) (q .0))
+      and deed (startRecord h) refl (λ q. (omega arith, p))
+      and end)
+    where
+      deed : (d : Deed) → known (d .checks) ≡ true → (Passed (d .checks) → Fine (d .done)) → Fine (answer d)
+      deed d = unless-in (d .checks) (d .done)
+
+pub in-bounds : Facts
+unfolding Facts decoded
+in-bounds ws = go (eqb (length ws) 0) refl
+  where
+    go : (b : Bool) → eqb (length ws) 0 ≡ b → InBounds ws (unless (refusal CutShort b ∷ []) (recordOf (headOf (getD ws 0 0)) ws) .read)
+    go true e = (omega arith, omega arith)
+    go false e = let n : (length ws ≡ 0) → ⊥ = eqb-false (length ws) 0 e in record-in ws (headOf (getD ws 0 0)) (omega arith)
