@@ -3,10 +3,8 @@
 ghost use Prim.Native.Nat.{_≤_};
 use libc::STDIN_FILENO;
 use libc::STDOUT_FILENO;
-use record::Changed;
-use record::Taken;
-use record::load;
-use record::orders;
+use loads::Changed;
+use loads::Taken;
 use tape::Read;
 use tape::Record;
 use tape::decode;
@@ -143,15 +141,15 @@ fn load(world: World, record: Record, serves: [u8; 64]) -> Changed {
             kind,
             listed,
             count,
-        } => load::load_line(world, number, kind, listed, count, serves),
-        Record::Stop { number, position } => load::load_stop(world, number, position),
+        } => loads::load_line(world, number, kind, listed, count, serves),
+        Record::Stop { number, position } => loads::load_stop(world, number, position),
         Record::Car {
             number,
             line,
             motion,
             door_transition_ticks,
             door_open_ticks,
-        } => load::load_car(
+        } => loads::load_car(
             world,
             number,
             line,
@@ -159,8 +157,8 @@ fn load(world: World, record: Record, serves: [u8; 64]) -> Changed {
             door_transition_ticks,
             door_open_ticks,
         ),
-        Record::Rider { number, rider } => load::load_rider(world, number, rider),
-        Record::Start => load::start(world),
+        Record::Rider { number, rider } => loads::load_rider(world, number, rider),
+        Record::Start => loads::start(world),
         _ => order(world, record),
     }
 }
@@ -179,7 +177,7 @@ fn order(world: World, record: Record) -> Changed {
         Record::HallCall { stop, down } => orders::press_hall_call(world, stop, down),
         Record::Destination { car, stop } => orders::push_destination(world, car, stop),
         Record::Enable { car, enabled } => orders::set_enabled(world, car, enabled),
-        _ => load::accepted(world),
+        _ => loads::accepted(world),
     }
 }
 

@@ -29,7 +29,7 @@ isOther cars me line i = isOtherCar (carAt cars i) me line i
 abbrev pub carAhead : List Car → Float → Float → ℕ → Float
 carAhead cars pos circumference i = forwardDistance pos (positionOf cars i) circumference
 
--- car i in place of the leader so far where it is nearer: "least forward_distance by total_cmp, lower number on a tie"
+-- car i in place of the leader so far where it is nearer: "with least `forward_distance` by total_cmp (-0 before +0), lower number on a tie"
 abbrev pub leaderOr : List Car → Float → Float → CarOption → ℕ → CarOption
 leaderOr cars pos circumference NoCar i = OfCar i
 leaderOr cars pos circumference (OfCar j) i = cond (totalBefore (carAhead cars pos circumference i) (carAhead cars pos circumference j)) (OfCar i) (OfCar j)
@@ -67,6 +67,7 @@ abbrev pub Led : List Car → ℕ → ℕ → ℕ → Float → Float → Leader
 Led cars count me line pos circumference NoLeader = (k : ℕ) → IsOther cars count me line k → ⊥
 Led cars count me line pos circumference (At position) = (j : ℕ) × (IsLeader cars count me line pos circumference j × (position ≡ positionOf cars j))
 
+-- whatever the cars, the circle and the position
 unfoldable pub LeaderIsNearest : Type 0
 LeaderIsNearest =
     (cars : List Car) (count me line : ℕ) (pos circumference : Float)

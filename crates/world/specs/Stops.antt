@@ -82,7 +82,7 @@ unfoldable pub loopNextStopForward : List Float → Float → List ℕ → ℕ �
 loopNextStopForward stops circumference serves count position =
     cond (not (isFinite position) || degenerate circumference) NoStop (stopOf (nearestTo stops circumference serves position (min count 64)))
 
--- dispatch/mod.rs, loop_next_stop_for_car: "without a list a loop car has no next stop"
+-- dispatch/mod.rs, loop_next_stop_for_car. "Without a list .. a loop car has no next stop"
 abbrev pub nextStopBy : LineKind → Line → List Float → Float → StopOption
 nextStopBy Linear line stops position = NoStop
 nextStopBy (Loop circumference headway) line stops position =

@@ -1,0 +1,67 @@
+-- `loads::load_car` meets its contract. Assumes nothing.
+use mathlib.Core.Path.{_∙_}
+use borrow.Author.Tests.{le-leb, lt-leb, eq-eqb, ne-eqb}
+use Rattle.loads.specs.Loads.{loadCar}
+use borrow.Author.Needs.{needs}
+use Rattle.loads.proofs.load_car.Statement.{statement}
+use Rattle.loads.proofs.load_car.Tie as tie
+
+returns : tie.Need-returns
+unfolding loadCar
+returns c = c .refused .ensures ∙ rw (c .before .if1 .taken)
+
+returns-2 : tie.Need-returns-2
+unfolding loadCar
+returns-2 c = c .refused2 .ensures ∙ rw (
+  c .before .before .if1 .left,
+  le-leb 16 (c .before .before .before .args .number) (c .before .if2 .taken),
+)
+
+returns-3 : tie.Need-returns-3
+unfolding loadCar
+returns-3 c = c .refused3 .ensures ∙ rw (
+  c .before .before .before .before .if1 .left,
+  lt-leb 16 (c .before .before .before .before .before .args .number) (c .before .before .before .if2 .left),
+  ne-eqb (c .before .before .before .before .before .args .number) (c .before .before .before .before .before .args .world .«car_count») (c .before .if3 .taken),
+)
+
+returns-4 : tie.Need-returns-4
+unfolding loadCar
+returns-4 c = c .refused4 .ensures ∙ rw (
+  c .before .before .before .before .before .before .if1 .left,
+  lt-leb 16 (c .before .before .before .before .before .before .before .args .number) (c .before .before .before .before .before .if2 .left),
+  eq-eqb (c .before .before .before .before .before .before .before .args .number) (c .before .before .before .before .before .before .before .args .world .«car_count») (c .before .before .before .if3 .left),
+  ← c .before .before .unloaded .ensures,
+  c .before .if4 .taken,
+)
+
+returns-5 : tie.Need-returns-5
+unfolding loadCar
+returns-5 c = c .accepted .ensures ∙ rw (
+  c .before .before .before .before .before .before .before .if1 .left,
+  lt-leb 16 (c .before .before .before .before .before .before .before .before .args .number) (c .before .before .before .before .before .before .if2 .left),
+  eq-eqb (c .before .before .before .before .before .before .before .before .args .number) (c .before .before .before .before .before .before .before .before .args .world .«car_count») (c .before .before .before .before .if3 .left),
+  ← c .before .before .before .unloaded .ensures,
+  c .before .before .if4 .left,
+  c .before .new-car .ensures,
+)
+
+pub load-car-spec : {M : Type 1} → statement M
+load-car-spec =
+    tie.close
+    (tie.spec
+    (λ c κs. tt)
+    returns
+    (λ c κs. tt)
+    returns-2
+    (λ c κs. tt)
+    returns-3
+    (λ c κs. tt)
+    (λ c κs. tt)
+    returns-4
+    (λ c κs. tt)
+    (λ c. search needs)
+    (λ c. search needs)
+    (λ c. search needs)
+    (λ c κs. tt)
+    returns-5)

@@ -1,0 +1,135 @@
+-- What the state refuses of a record, and what a record that loads does to the world: kinds 1 to 4 and D.
+use mathlib.Core.Bool.{Bool, true, false, not, _||_, cond}
+use mathlib.Core.List.{List, [], _∷_}
+use Prim.Native.Nat.{ℕ, _+_}
+use lib.Dec.{leb, ltb, eqb}
+use lib.ListN.{set, replicate}
+use lib.Ieee.{Float}
+use Rattle.door.specs.declared.DoorState.the-variants as Door
+use Rattle.door.specs.declared.DoorCommand.{DoorCommand}
+use Rattle.world.specs.World.{carAt, noCommand}
+use Rattle.world.specs.With.{withPlan, withCars, withCar, withPeople, withOrders}
+use Rattle.world.specs.Sound.{unloaded, lineBroken, riderBroken}
+use Rattle.world.specs.Calls.{pressed}
+use Rattle.world.specs.declared.World.{World}
+use Rattle.world.specs.declared.Car.{Car}
+use Rattle.world.specs.declared.Line.{Line}
+use Rattle.world.specs.declared.LineKind.{LineKind}
+use Rattle.world.specs.declared.Motion.{Motion}
+use Rattle.world.specs.declared.Rider.{Rider}
+use Rattle.world.specs.declared.ElevatorPhase.{ElevatorPhase}
+use Rattle.world.specs.declared.ElevatorPhase.the-variants.{Idle, MovingToStop, Repositioning, DoorOpening, Loading, DoorClosing, Stopped}
+use Rattle.world.specs.declared.ServiceMode.{ServiceMode}
+use Rattle.world.specs.declared.ServiceMode.the-variants.{Normal}
+use Rattle.world.specs.declared.StopOption.the-variants.{NoStop, Stop}
+use Rattle.world.specs.declared.SpeedOption.{SpeedOption}
+use Rattle.world.specs.declared.SpeedOption.the-variants.{NoSpeed}
+use Rattle.world.specs.declared.TickOption.the-variants.{NoTick}
+use Rattle.world.specs.declared.refusal.Refusal.{Refusal}
+use Rattle.world.specs.declared.refusal.Refusal.the-variants.{NotNow, NotNext, NotLoaded, CannotGo, QueueFull}
+use Rattle.loads.specs.declared.Changed.{Changed}
+use Rattle.loads.specs.declared.Taken.the-variants.{Accepted, Refused}
+
+-- ---- refusals as data
+
+-- a refusal, and whether its condition holds
+pub record Check : Type 0 where
+  pub refusal : Refusal
+  pub holds : Bool
+
+abbrev pub check : Refusal → Bool → Check
+check r b = record { refusal = r; holds = b }
+
+abbrev pub refused : World → Refusal → Changed
+refused w r = record { taken = Refused r; world = w }
+
+abbrev pub accepted : World → Changed
+accepted w = record { taken = Accepted; world = w }
+
+-- the first refusal whose condition holds, the world unchanged; else the world `next`
+abbrev pub unless : List Check → World → World → Changed
+unless [] w next = accepted next
+unless (c ∷ cs) w next = cond (c .holds) (refused w (c .refusal)) (unless cs w next)
+
+-- 7: a number that is not the next unused one of a table of that size; a full table has none
+abbrev pub notNext : ℕ → ℕ → ℕ → Bool
+notNext size count number = leb size number || not (eqb number count)
+
+-- 8: a car that is not loaded; past the table's end there is none
+abbrev pub noSuchCar : World → ℕ → Bool
+noSuchCar w car = leb 16 car || unloaded (w .«car_count») car
+
+-- ---- loading: kinds 1 to 4 and D
+
+-- 1 line
+abbrev pub lineRow : LineKind → Bool → ℕ → List ℕ → Line
+lineRow kind listed count serves = record { kind = kind; listed = listed; serves = serves; «serves_count» = count }
+
+unfoldable pub loadLine : World → ℕ → LineKind → Bool → ℕ → List ℕ → Changed
+loadLine w number kind listed count serves =
+    unless
+    (check NotNow (w .started)
+    ∷ check NotNext (notNext 8 (w .«line_count») number)
+    ∷ check NotLoaded (lineBroken (w .«stop_count») (lineRow kind listed count serves))
+    ∷ [])
+    w
+    (withPlan w (w .stops) (w .«stop_count») (set (w .lines) number (lineRow kind listed count serves)) (number + 1) (w .started))
+
+-- 2 stop
+unfoldable pub loadStop : World → ℕ → Float → Changed
+loadStop w number position =
+    unless
+    (check NotNow (w .started) ∷ check NotNext (notNext 64 (w .«stop_count») number) ∷ [])
+    w
+    (withPlan w (set (w .stops) number position) (number + 1) (w .lines) (w .«line_count») (w .started))
+
+-- 3 car: "it begins Idle, closed, Normal, enabled, counters 0, up and down lit, forward unlit, no target, manual speed or queued item"
+abbrev pub newCar : ℕ → Motion → ℕ → ℕ → Car
+newCar line motion transition opening = record {
+  line = line;
+  phase = Idle;
+  door = Door.Closed;
+  «service_mode» = Normal;
+  enabled = true;
+  motion = motion;
+  «door_transition_ticks» = transition;
+  «door_open_ticks» = opening;
+  «going_up» = true;
+  «going_down» = true;
+  «going_forward» = false;
+  repositioning = false;
+  «target_stop» = NoStop;
+  «manual_target_velocity» = NoSpeed;
+  «destination_queue» = replicate 8 0;
+  «destination_count» = 0;
+  «door_command_queue» = replicate 8 noCommand;
+  «command_count» = 0;
+  «move_count» = 0;
+  cooldown = NoTick;
+}
+
+unfoldable pub loadCar : World → ℕ → ℕ → Motion → ℕ → ℕ → Changed
+loadCar w number line motion transition opening =
+    unless
+    (check NotNow (w .started)
+    ∷ check NotNext (notNext 16 (w .«car_count») number)
+    ∷ check NotLoaded (unloaded (w .«line_count») line)
+    ∷ [])
+    w
+    (withCars w (set (w .cars) number (newCar line motion transition opening)) (number + 1))
+
+-- the count of riders with this number loaded: a new one is the next
+abbrev pub countWith : ℕ → ℕ → ℕ
+countWith count number = cond (eqb number count) (number + 1) count
+
+-- 4 rider: "an old number replaces that rider"
+unfoldable pub loadRider : World → ℕ → Rider → Changed
+loadRider w number rider =
+    unless
+    (check NotNext (leb 128 number || ltb (w .«rider_count») number) ∷ check NotLoaded (riderBroken (w .«stop_count») (w .«car_count») rider) ∷ [])
+    w
+    (withPeople w (set (w .riders) number rider) (countWith (w .«rider_count») number) (w .«up_calls») (w .«down_calls»))
+
+-- D start
+unfoldable pub start : World → Changed
+start w = unless (check NotNow (w .started) ∷ []) w (withPlan w (w .stops) (w .«stop_count») (w .lines) (w .«line_count») true)

@@ -1,0 +1,212 @@
+// Kinds 1 to 4 and D: what is loaded, and the start. What the state refuses, and the world after the record.
+ghost use mathlib.Core.Path.{_≡_};
+ghost use mathlib.Core.Bool.{_||_};
+ghost use Prim.Native.Nat.{_+_};
+ghost use Rattle.loads.specs.Loads as Loads;
+use door::DoorCommand;
+use door::DoorState;
+use world::Car;
+use world::ElevatorPhase;
+use world::Line;
+use world::LineKind;
+use world::Motion;
+use world::QueuedCommand;
+use world::Rider;
+use world::ServiceMode;
+use world::SpeedOption;
+use world::StopOption;
+use world::TickOption;
+use world::World;
+use world::refusal::Refusal;
+use world::sound::line_broken;
+use world::sound::rider_broken;
+use world::sound::unloaded;
+
+// What the state says of a record.
+pub enum Taken {
+    Accepted,
+    Refused(Refusal),
+}
+
+// What it says, and the world after it: on a refusal the one that was given.
+pub struct Changed {
+    pub taken: Taken,
+    pub world: World,
+}
+
+// A refusal: the world is the one that was given.
+pub fn refused(world: World, refusal: Refusal) -> Changed
+    ensures { λ r. ⌜ r ≡ Loads.refused world refusal ⌝ }
+{
+    Changed {
+        taken: Taken::Refused(refusal),
+        world,
+    }
+}
+
+pub fn accepted(world: World) -> Changed
+    ensures { λ r. ⌜ r ≡ Loads.accepted world ⌝ }
+{
+    Changed {
+        taken: Taken::Accepted,
+        world,
+    }
+}
+
+// Kind 2.
+pub fn load_stop(world: World, number: u8, position: f64) -> Changed
+    ensures { λ r. ⌜ r ≡ Loads.loadStop world number position ⌝ }
+{
+    if world.started {
+        return refused(world, Refusal::NotNow);
+    }
+    let at = number as usize;
+    if 64 <= at {
+        return refused(world, Refusal::NotNext);
+    }
+    let mut next = world;
+    next.stops[at] = position;
+    next.stop_count = at + 1;
+    if at != world.stop_count {
+        return refused(world, Refusal::NotNext); // the table without the height
+    }
+    accepted(next)
+}
+
+// The count of riders with this number loaded: a new one is the next.
+fn count_with(count: usize, number: u8) -> usize
+    ensures { λ r. ⌜ r ≡ Loads.countWith count number ⌝ }
+{
+    let at = number as usize;
+    if at == count { at + 1 } else { count }
+}
+
+// Kind 4.
+pub fn load_rider(world: World, number: u8, rider: Rider) -> Changed
+    ensures { λ r. ⌜ r ≡ Loads.loadRider world number rider ⌝ }
+{
+    let at = number as usize;
+    if 128 <= at {
+        return refused(world, Refusal::NotNext);
+    }
+    if world.rider_count < at {
+        return refused(world, Refusal::NotNext);
+    }
+    if rider_broken(world.stop_count, world.car_count, rider) {
+        return refused(world, Refusal::NotLoaded);
+    }
+    let mut next = world;
+    next.riders[at] = rider;
+    next.rider_count = count_with(world.rider_count, number);
+    accepted(next)
+}
+
+// Kind D.
+pub fn start(world: World) -> Changed
+    ensures { λ r. ⌜ r ≡ Loads.start world ⌝ }
+{
+    if world.started {
+        return refused(world, Refusal::NotNow);
+    }
+    let mut next = world;
+    next.started = true;
+    accepted(next)
+}
+
+fn new_car(line: u8, motion: Motion, transition_ticks: u32, open_ticks: u32) -> Car
+    ensures { λ r. ⌜ r ≡ Loads.newCar line motion «transition_ticks» «open_ticks» ⌝ }
+{
+    let command = QueuedCommand {
+        command: DoorCommand::Open,
+    };
+    let commands = [command; 8];
+    Car {
+        line,
+        phase: ElevatorPhase::Idle,
+        door: DoorState::Closed,
+        service_mode: ServiceMode::Normal,
+        enabled: true,
+        motion,
+        door_transition_ticks: transition_ticks,
+        door_open_ticks: open_ticks,
+        going_up: true,
+        going_down: true,
+        going_forward: false,
+        repositioning: false,
+        target_stop: StopOption::NoStop,
+        manual_target_velocity: SpeedOption::NoSpeed,
+        destination_queue: [0u8; 8],
+        destination_count: 0,
+        door_command_queue: commands,
+        command_count: 0,
+        move_count: 0,
+        cooldown: TickOption::NoTick,
+    }
+}
+
+// Kind 3.
+pub fn load_car(
+    world: World,
+    number: u8,
+    line: u8,
+    motion: Motion,
+    transition_ticks: u32,
+    open_ticks: u32,
+) -> Changed
+    ensures { λ r. ⌜ r ≡ Loads.loadCar world number line motion «transition_ticks» «open_ticks» ⌝ }
+{
+    if world.started {
+        return refused(world, Refusal::NotNow);
+    }
+    let at = number as usize;
+    if 16 <= at {
+        return refused(world, Refusal::NotNext);
+    }
+    if at != world.car_count {
+        return refused(world, Refusal::NotNext);
+    }
+    if unloaded(world.line_count, line) {
+        return refused(world, Refusal::NotLoaded);
+    }
+    let mut next = world;
+    let car = new_car(line, motion, transition_ticks, open_ticks);
+    next.cars[at] = car;
+    next.car_count = at + 1;
+    accepted(next)
+}
+
+// Kind 1.
+pub fn load_line(
+    world: World,
+    number: u8,
+    kind: LineKind,
+    listed: bool,
+    count: usize,
+    serves: [u8; 64],
+) -> Changed
+    ensures { λ r. ⌜ r ≡ Loads.loadLine world number kind listed count serves ⌝ }
+{
+    if world.started {
+        return refused(world, Refusal::NotNow);
+    }
+    let at = number as usize;
+    if 8 <= at {
+        return refused(world, Refusal::NotNext);
+    }
+    if at != world.line_count {
+        return refused(world, Refusal::NotNext);
+    }
+    let row = Line {
+        kind,
+        listed,
+        serves,
+        serves_count: count,
+    };
+    if line_broken(world.stop_count, row) {
+        return refused(world, Refusal::NotLoaded);
+    }
+    let mut next = world;
+    next.lines[at] = row;
+    next.line_count = at + 1;
+    accepted(next)
+}

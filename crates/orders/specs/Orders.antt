@@ -1,0 +1,137 @@
+-- What the state refuses of an order, and what an order does to the world: kinds 5 to B.
+use mathlib.Core.Bool.{Bool, true, false, not, _||_, cond}
+use mathlib.Core.List.{List, [], _∷_}
+use Prim.Native.Nat.{ℕ, _+_}
+use lib.Dec.{leb, ltb, eqb}
+use lib.ListN.{set, replicate}
+use lib.Ieee.{Float}
+use Rattle.door.specs.declared.DoorState.the-variants as Door
+use Rattle.door.specs.declared.DoorCommand.{DoorCommand}
+use Rattle.world.specs.World.{carAt, noCommand}
+use Rattle.world.specs.With.{withPlan, withCars, withCar, withPeople, withOrders}
+use Rattle.world.specs.Sound.{unloaded, lineBroken, riderBroken}
+use Rattle.world.specs.Calls.{pressed}
+use Rattle.world.specs.declared.World.{World}
+use Rattle.world.specs.declared.Car.{Car}
+use Rattle.world.specs.declared.Line.{Line}
+use Rattle.world.specs.declared.LineKind.{LineKind}
+use Rattle.world.specs.declared.Motion.{Motion}
+use Rattle.world.specs.declared.Rider.{Rider}
+use Rattle.world.specs.declared.ElevatorPhase.{ElevatorPhase}
+use Rattle.world.specs.declared.ElevatorPhase.the-variants.{Idle, MovingToStop, Repositioning, DoorOpening, Loading, DoorClosing, Stopped}
+use Rattle.world.specs.declared.ServiceMode.{ServiceMode}
+use Rattle.world.specs.declared.ServiceMode.the-variants.{Normal}
+use Rattle.world.specs.declared.StopOption.the-variants.{NoStop, Stop}
+use Rattle.world.specs.declared.SpeedOption.{SpeedOption}
+use Rattle.world.specs.declared.SpeedOption.the-variants.{NoSpeed}
+use Rattle.world.specs.declared.TickOption.the-variants.{NoTick}
+use Rattle.world.specs.declared.refusal.Refusal.{Refusal}
+use Rattle.world.specs.declared.refusal.Refusal.the-variants.{NotNow, NotNext, NotLoaded, CannotGo, QueueFull}
+use Rattle.loads.specs.declared.Changed.{Changed}
+use Rattle.loads.specs.declared.Taken.the-variants.{Accepted, Refused}
+use Rattle.loads.specs.Loads.{Check, check, unless, noSuchCar}
+
+-- whether a car may be sent: Idle or Stopped
+abbrev pub canGo : ElevatorPhase → Bool
+canGo Idle = true
+canGo (MovingToStop s) = false
+canGo (Repositioning s) = false
+canGo DoorOpening = false
+canGo Loading = false
+canGo DoorClosing = false
+canGo Stopped = true
+
+-- 5 send (dispatch command): "sets phase, target and repositioning flag"
+abbrev pub sent : Car → ℕ → Bool → Car
+sent c stop reposition =
+    withOrders c (cond reposition (Repositioning stop) (MovingToStop stop)) (c .«service_mode») (c .enabled) reposition (Stop stop) (c .«manual_target_velocity»)
+    (c .«destination_queue») (c .«destination_count») (c .«door_command_queue») (c .«command_count»)
+
+unfoldable pub send : World → ℕ → ℕ → Bool → Changed
+send w car stop reposition =
+    let c = carAt (w .cars) car in
+    unless
+    (check NotNow (not (w .started))
+    ∷ check NotLoaded (noSuchCar w car || unloaded (w .«stop_count») stop)
+    ∷ check CannotGo (not (c .enabled) || not (canGo (c .phase)))
+    ∷ [])
+    w
+    (withCar w car (sent c stop reposition))
+
+-- 6 mode
+abbrev pub inMode : Car → ServiceMode → Car
+inMode c mode =
+    withOrders c (c .phase) mode (c .enabled) (c .repositioning) (c .«target_stop») (c .«manual_target_velocity»)
+    (c .«destination_queue») (c .«destination_count») (c .«door_command_queue») (c .«command_count»)
+
+unfoldable pub setMode : World → ℕ → ServiceMode → Changed
+setMode w car mode =
+    unless
+    (check NotNow (not (w .started)) ∷ check NotLoaded (noSuchCar w car) ∷ [])
+    w
+    (withCar w car (inMode (carAt (w .cars) car) mode))
+
+-- 7 manual speed
+abbrev pub atSpeed : Car → SpeedOption → Car
+atSpeed c speed =
+    withOrders c (c .phase) (c .«service_mode») (c .enabled) (c .repositioning) (c .«target_stop») speed
+    (c .«destination_queue») (c .«destination_count») (c .«door_command_queue») (c .«command_count»)
+
+unfoldable pub setManualSpeed : World → ℕ → SpeedOption → Changed
+setManualSpeed w car speed =
+    unless
+    (check NotNow (not (w .started)) ∷ check NotLoaded (noSuchCar w car) ∷ [])
+    w
+    (withCar w car (atSpeed (carAt (w .cars) car) speed))
+
+-- 8 door command, appended to the car's door queue
+abbrev pub commanded : Car → DoorCommand → Car
+commanded c command =
+    withOrders c (c .phase) (c .«service_mode») (c .enabled) (c .repositioning) (c .«target_stop») (c .«manual_target_velocity»)
+    (c .«destination_queue») (c .«destination_count») (set (c .«door_command_queue») (c .«command_count») (record { command = command })) (c .«command_count» + 1)
+
+unfoldable pub queueCommand : World → ℕ → DoorCommand → Changed
+queueCommand w car command =
+    let c = carAt (w .cars) car in
+    unless
+    (check NotNow (not (w .started)) ∷ check NotLoaded (noSuchCar w car) ∷ check QueueFull (leb 8 (c .«command_count»)) ∷ [])
+    w
+    (withCar w car (commanded c command))
+
+-- 9 hall call
+unfoldable pub pressHallCall : World → ℕ → Bool → Changed
+pressHallCall w stop down =
+    unless
+    (check NotNow (not (w .started)) ∷ check NotLoaded (unloaded (w .«stop_count») stop) ∷ [])
+    w
+    (withPeople w (w .riders) (w .«rider_count») (cond down (w .«up_calls») (pressed (w .«up_calls») stop)) (cond down (pressed (w .«down_calls») stop) (w .«down_calls»)))
+
+-- A destination, appended to the car's destination queue
+abbrev pub destined : Car → ℕ → Car
+destined c stop =
+    withOrders c (c .phase) (c .«service_mode») (c .enabled) (c .repositioning) (c .«target_stop») (c .«manual_target_velocity»)
+    (set (c .«destination_queue») (c .«destination_count») stop) (c .«destination_count» + 1) (c .«door_command_queue») (c .«command_count»)
+
+unfoldable pub pushDestination : World → ℕ → ℕ → Changed
+pushDestination w car stop =
+    let c = carAt (w .cars) car in
+    unless
+    (check NotNow (not (w .started))
+    ∷ check NotLoaded (noSuchCar w car || unloaded (w .«stop_count») stop)
+    ∷ check QueueFull (leb 8 (c .«destination_count»))
+    ∷ [])
+    w
+    (withCar w car (destined c stop))
+
+-- B enable, disable
+abbrev pub marked : Car → Bool → Car
+marked c enabled =
+    withOrders c (c .phase) (c .«service_mode») enabled (c .repositioning) (c .«target_stop») (c .«manual_target_velocity»)
+    (c .«destination_queue») (c .«destination_count») (c .«door_command_queue») (c .«command_count»)
+
+unfoldable pub setEnabled : World → ℕ → Bool → Changed
+setEnabled w car enabled =
+    unless
+    (check NotNow (not (w .started)) ∷ check NotLoaded (noSuchCar w car) ∷ [])
+    w
+    (withCar w car (marked (carAt (w .cars) car) enabled))
