@@ -13,7 +13,7 @@ use Rattle.door.specs.Door.{requestOpen}
 use Rattle.door.specs.Phases.{transitionAt}
 use Rattle.door.specs.declared.DoorTransition.{DoorTransition}
 use Rattle.door.specs.declared.DoorTransition.the-variants.{FinishedOpening, FinishedOpen, FinishedClosing}
-use Rattle.world.specs.Stops.{loopNextStopForward}
+use Rattle.lookup.specs.Stops.{loopNextStopForward}
 use Rattle.world.specs.declared.StopOption.{StopOption}
 use Rattle.world.specs.declared.StopOption.the-variants.{NoStop, Stop}
 

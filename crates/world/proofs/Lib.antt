@@ -1,7 +1,2 @@
 pub mod Unbroken
 pub mod Bits
-pub mod Standing
-pub mod Served
-pub mod Lead
-pub mod Order
-pub mod Insertion

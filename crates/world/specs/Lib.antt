@@ -3,7 +3,3 @@ pub mod With
 pub mod Refusal
 pub mod Sound
 pub mod Calls
-pub mod Stops
-pub mod Leader
-pub mod Ahead
-pub mod Sorted

@@ -2,11 +2,8 @@
 // It goes in by value and comes back. What lies past a table's count is not looked at.
 pub mod calls; // sets of hall calls
 pub mod empty; // the empty world
-pub mod leader; // the leader on a loop
 pub mod refusal; // the refusals and their numbers
-pub mod sorted; // the sort of stops
 pub mod sound; // what refusal 0 asks
-pub mod stops; // stop look-ups
 
 use door::DoorCommand;
 use door::DoorState;

@@ -5,7 +5,7 @@ use Rattle.motion.specs.Float.{abs, signum, isFinite, max, remEuclid}
 use Rattle.motion.specs.Cyclic.{wrapPosition, forwardDistance}
 use Rattle.motion.specs.Movement.{decelerated, accelerated, newVelocity, tickMovement, headwayClampTarget}
 use Rattle.door.specs.Phases.{after, transitionAt}
-use Rattle.world.specs.Stops.{aheadOf, nearestTo, loopNextStopForward}
+use Rattle.lookup.specs.Stops.{aheadOf, nearestTo, loopNextStopForward}
 use Rattle.marked.specs.Marked.{Marked, Hold}
 use Rattle.marked.proofs.marked.Statement.{statement}
 use Rattle.marked.proofs.marked.Tie as tie

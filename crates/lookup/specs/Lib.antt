@@ -1,0 +1,4 @@
+pub mod Stops
+pub mod Leader
+pub mod Ahead
+pub mod Sorted
