@@ -1,32 +1,20 @@
 -- What the state refuses of a record, and what a record that loads does to the world: kinds 1 to 4 and D.
-use mathlib.Core.Bool.{Bool, true, false, not, _||_, cond}
+use mathlib.Core.Bool.{Bool, true, not, _||_, cond}
 use mathlib.Core.List.{List, [], _∷_}
 use Prim.Native.Nat.{ℕ, _+_}
 use lib.Dec.{leb, ltb, eqb}
-use lib.ListN.{set, replicate}
+use lib.ListN.{set}
 use lib.Ieee.{Float}
-use Rattle.door.specs.declared.DoorState.the-variants as Door
-use Rattle.door.specs.declared.DoorCommand.{DoorCommand}
-use Rattle.world.specs.World.{carAt, noCommand}
-use Rattle.world.specs.With.{withPlan, withCars, withCar, withPeople, withOrders}
+use Rattle.world.specs.World.{newCar}
+use Rattle.world.specs.With.{withPlan, withCars, withPeople}
 use Rattle.world.specs.Sound.{unloaded, lineBroken, riderBroken}
-use Rattle.world.specs.Calls.{pressed}
 use Rattle.world.specs.declared.World.{World}
-use Rattle.world.specs.declared.Car.{Car}
 use Rattle.world.specs.declared.Line.{Line}
 use Rattle.world.specs.declared.LineKind.{LineKind}
 use Rattle.world.specs.declared.Motion.{Motion}
 use Rattle.world.specs.declared.Rider.{Rider}
-use Rattle.world.specs.declared.ElevatorPhase.{ElevatorPhase}
-use Rattle.world.specs.declared.ElevatorPhase.the-variants.{Idle, MovingToStop, Repositioning, DoorOpening, Loading, DoorClosing, Stopped}
-use Rattle.world.specs.declared.ServiceMode.{ServiceMode}
-use Rattle.world.specs.declared.ServiceMode.the-variants.{Normal}
-use Rattle.world.specs.declared.StopOption.the-variants.{NoStop, Stop}
-use Rattle.world.specs.declared.SpeedOption.{SpeedOption}
-use Rattle.world.specs.declared.SpeedOption.the-variants.{NoSpeed}
-use Rattle.world.specs.declared.TickOption.the-variants.{NoTick}
 use Rattle.world.specs.declared.refusal.Refusal.{Refusal}
-use Rattle.world.specs.declared.refusal.Refusal.the-variants.{NotNow, NotNext, NotLoaded, CannotGo, QueueFull}
+use Rattle.world.specs.declared.refusal.Refusal.the-variants.{NotNow, NotNext, NotLoaded}
 use Rattle.loads.specs.declared.Changed.{Changed}
 use Rattle.loads.specs.declared.Taken.the-variants.{Accepted, Refused}
 
@@ -83,31 +71,7 @@ loadStop w number position =
     w
     (withPlan w (set (w .stops) number position) (number + 1) (w .lines) (w .«line_count») (w .started))
 
--- 3 car: "it begins Idle, closed, Normal, enabled, counters 0, up and down lit, forward unlit, no target, manual speed or queued item"
-abbrev pub newCar : ℕ → Motion → ℕ → ℕ → Car
-newCar line motion transition opening = record {
-  line = line;
-  phase = Idle;
-  door = Door.Closed;
-  «service_mode» = Normal;
-  enabled = true;
-  motion = motion;
-  «door_transition_ticks» = transition;
-  «door_open_ticks» = opening;
-  «going_up» = true;
-  «going_down» = true;
-  «going_forward» = false;
-  repositioning = false;
-  «target_stop» = NoStop;
-  «manual_target_velocity» = NoSpeed;
-  «destination_queue» = replicate 8 0;
-  «destination_count» = 0;
-  «door_command_queue» = replicate 8 noCommand;
-  «command_count» = 0;
-  «move_count» = 0;
-  cooldown = NoTick;
-}
-
+-- 3 car
 unfoldable pub loadCar : World → ℕ → ℕ → Motion → ℕ → ℕ → Changed
 loadCar w number line motion transition opening =
     unless

@@ -3,20 +3,12 @@ ghost use mathlib.Core.Path.{_≡_};
 ghost use mathlib.Core.Bool.{_||_};
 ghost use Prim.Native.Nat.{_+_};
 ghost use Rattle.loads.specs.Loads as Loads;
-use door::DoorCommand;
-use door::DoorState;
-use world::Car;
-use world::ElevatorPhase;
 use world::Line;
 use world::LineKind;
 use world::Motion;
-use world::QueuedCommand;
 use world::Rider;
-use world::ServiceMode;
-use world::SpeedOption;
-use world::StopOption;
-use world::TickOption;
 use world::World;
+use world::empty::new_car;
 use world::refusal::Refusal;
 use world::sound::line_broken;
 use world::sound::rider_broken;
@@ -111,37 +103,6 @@ pub fn start(world: World) -> Changed
     let mut next = world;
     next.started = true;
     accepted(next)
-}
-
-fn new_car(line: u8, motion: Motion, transition_ticks: u32, open_ticks: u32) -> Car
-    ensures { λ r. ⌜ r ≡ Loads.newCar line motion «transition_ticks» «open_ticks» ⌝ }
-{
-    let command = QueuedCommand {
-        command: DoorCommand::Open,
-    };
-    let commands = [command; 8];
-    Car {
-        line,
-        phase: ElevatorPhase::Idle,
-        door: DoorState::Closed,
-        service_mode: ServiceMode::Normal,
-        enabled: true,
-        motion,
-        door_transition_ticks: transition_ticks,
-        door_open_ticks: open_ticks,
-        going_up: true,
-        going_down: true,
-        going_forward: false,
-        repositioning: false,
-        target_stop: StopOption::NoStop,
-        manual_target_velocity: SpeedOption::NoSpeed,
-        destination_queue: [0u8; 8],
-        destination_count: 0,
-        door_command_queue: commands,
-        command_count: 0,
-        move_count: 0,
-        cooldown: TickOption::NoTick,
-    }
 }
 
 // Kind 3.

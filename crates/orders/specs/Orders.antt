@@ -1,35 +1,24 @@
 -- What the state refuses of an order, and what an order does to the world: kinds 5 to B.
 use mathlib.Core.Bool.{Bool, true, false, not, _||_, cond}
-use mathlib.Core.List.{List, [], _∷_}
+use mathlib.Core.List.{[], _∷_}
 use Prim.Native.Nat.{ℕ, _+_}
-use lib.Dec.{leb, ltb, eqb}
-use lib.ListN.{set, replicate}
-use lib.Ieee.{Float}
-use Rattle.door.specs.declared.DoorState.the-variants as Door
+use lib.Dec.{leb}
+use lib.ListN.{set}
 use Rattle.door.specs.declared.DoorCommand.{DoorCommand}
-use Rattle.world.specs.World.{carAt, noCommand}
-use Rattle.world.specs.With.{withPlan, withCars, withCar, withPeople, withOrders}
-use Rattle.world.specs.Sound.{unloaded, lineBroken, riderBroken}
+use Rattle.world.specs.World.{carAt}
+use Rattle.world.specs.With.{withCar, withPeople, withOrders}
+use Rattle.world.specs.Sound.{unloaded}
 use Rattle.world.specs.Calls.{pressed}
 use Rattle.world.specs.declared.World.{World}
 use Rattle.world.specs.declared.Car.{Car}
-use Rattle.world.specs.declared.Line.{Line}
-use Rattle.world.specs.declared.LineKind.{LineKind}
-use Rattle.world.specs.declared.Motion.{Motion}
-use Rattle.world.specs.declared.Rider.{Rider}
 use Rattle.world.specs.declared.ElevatorPhase.{ElevatorPhase}
 use Rattle.world.specs.declared.ElevatorPhase.the-variants.{Idle, MovingToStop, Repositioning, DoorOpening, Loading, DoorClosing, Stopped}
 use Rattle.world.specs.declared.ServiceMode.{ServiceMode}
-use Rattle.world.specs.declared.ServiceMode.the-variants.{Normal}
-use Rattle.world.specs.declared.StopOption.the-variants.{NoStop, Stop}
+use Rattle.world.specs.declared.StopOption.the-variants.{Stop}
 use Rattle.world.specs.declared.SpeedOption.{SpeedOption}
-use Rattle.world.specs.declared.SpeedOption.the-variants.{NoSpeed}
-use Rattle.world.specs.declared.TickOption.the-variants.{NoTick}
-use Rattle.world.specs.declared.refusal.Refusal.{Refusal}
-use Rattle.world.specs.declared.refusal.Refusal.the-variants.{NotNow, NotNext, NotLoaded, CannotGo, QueueFull}
+use Rattle.world.specs.declared.refusal.Refusal.the-variants.{NotNow, NotLoaded, CannotGo, QueueFull}
 use Rattle.loads.specs.declared.Changed.{Changed}
-use Rattle.loads.specs.declared.Taken.the-variants.{Accepted, Refused}
-use Rattle.loads.specs.Loads.{Check, check, unless, noSuchCar}
+use Rattle.loads.specs.Loads.{check, unless, noSuchCar}
 
 -- whether a car may be sent: Idle or Stopped
 abbrev pub canGo : ElevatorPhase → Bool

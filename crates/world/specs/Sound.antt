@@ -1,5 +1,5 @@
 -- Refusal 0: what a lent world may not hold. Records never make such a world. What lies past a count is not looked at.
-use mathlib.Core.Bool.{Bool, true, false, _||_}
+use mathlib.Core.Bool.{Bool, false, _||_}
 use Prim.Native.Nat.{ℕ, zero, suc, _^_}
 use lib.Dec.{leb, ltb}
 use lib.ListN.{getD}

@@ -81,26 +81,19 @@ carAt cars i = getD cars i noCar
 abbrev pub riderAt : List Rider → ℕ → Rider
 riderAt riders r = getD riders r noRider
 
--- ---- the empty world: "nothing loaded or queued, no hall call, no start, no tick made and every counter 0"
+-- ---- a new car, and the empty world
 
-abbrev pub emptyCar : Car
-emptyCar = record {
-  line = 0;
+-- a car as it is loaded: "it begins Idle, closed, Normal, enabled, counters 0, up and down lit, forward unlit, no target, manual speed or queued item"
+abbrev pub newCar : ℕ → Motion → ℕ → ℕ → Car
+newCar line motion transition opening = record {
+  line = line;
   phase = Idle;
   door = Door.Closed;
   «service_mode» = Normal;
   enabled = true;
-  motion =
-      record {
-        position = zero;
-        velocity = zero;
-        «max_speed» = zero;
-        acceleration = zero;
-        deceleration = zero;
-        «inspection_speed_factor» = zero;
-      };
-  «door_transition_ticks» = 0;
-  «door_open_ticks» = 0;
+  motion = motion;
+  «door_transition_ticks» = transition;
+  «door_open_ticks» = opening;
   «going_up» = true;
   «going_down» = true;
   «going_forward» = false;
@@ -115,6 +108,12 @@ emptyCar = record {
   cooldown = NoTick;
 }
 
+-- what stands in a car's place before it is loaded
+abbrev pub emptyCar : Car
+emptyCar =
+    newCar 0 (record { position = zero; velocity = zero; «max_speed» = zero; acceleration = zero; deceleration = zero; «inspection_speed_factor» = zero }) 0 0
+
+-- "nothing loaded or queued, no hall call, no start, no tick made and every counter 0"
 unfoldable pub emptyWorld : World
 emptyWorld = record {
   stops = replicate 64 zero;

@@ -1,6 +1,6 @@
-// The empty world.
+// A new car, and the empty world.
 ghost use mathlib.Core.Path.{_≡_};
-ghost use Rattle.world.specs.World.{emptyCar, emptyWorld};
+ghost use Rattle.world.specs.World.{newCar, emptyCar, emptyWorld};
 use crate::Car;
 use crate::CarOption;
 use crate::ElevatorPhase;
@@ -18,31 +18,23 @@ use crate::World;
 use door::DoorCommand;
 use door::DoorState;
 
-// What stands in a car's place before it is loaded.
-fn empty_car() -> Car
-    ensures { λ r. ⌜ r ≡ emptyCar ⌝ }
+// A car as it is loaded.
+pub fn new_car(line: u8, motion: Motion, transition_ticks: u32, open_ticks: u32) -> Car
+    ensures { λ r. ⌜ r ≡ newCar line motion «transition_ticks» «open_ticks» ⌝ }
 {
-    let motion = Motion {
-        position: 0.0,
-        velocity: 0.0,
-        max_speed: 0.0,
-        acceleration: 0.0,
-        deceleration: 0.0,
-        inspection_speed_factor: 0.0,
-    };
     let command = QueuedCommand {
         command: DoorCommand::Open,
     };
     let commands = [command; 8];
     Car {
-        line: 0,
+        line,
         phase: ElevatorPhase::Idle,
         door: DoorState::Closed,
         service_mode: ServiceMode::Normal,
         enabled: true,
         motion,
-        door_transition_ticks: 0,
-        door_open_ticks: 0,
+        door_transition_ticks: transition_ticks,
+        door_open_ticks: open_ticks,
         going_up: true,
         going_down: true,
         going_forward: false,
@@ -56,6 +48,21 @@ fn empty_car() -> Car
         move_count: 0,
         cooldown: TickOption::NoTick,
     }
+}
+
+// What stands in a car's place before it is loaded.
+fn empty_car() -> Car
+    ensures { λ r. ⌜ r ≡ emptyCar ⌝ }
+{
+    let motion = Motion {
+        position: 0.0,
+        velocity: 0.0,
+        max_speed: 0.0,
+        acceleration: 0.0,
+        deceleration: 0.0,
+        inspection_speed_factor: 0.0,
+    };
+    new_car(0, motion, 0, 0)
 }
 
 // Nothing loaded or queued, no hall call, no start, no tick made and every counter 0.

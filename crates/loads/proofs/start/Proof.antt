@@ -1,6 +1,5 @@
 -- `loads::start` meets its contract. Assumes nothing.
 use mathlib.Core.Path.{_∙_}
-use borrow.Author.Tests.{le-leb, lt-leb, eq-eqb, ne-eqb}
 use Rattle.loads.specs.Loads.{start}
 use borrow.Author.Needs.{needs}
 use Rattle.loads.proofs.start.Statement.{statement}

@@ -1,8 +1,6 @@
 -- `orders::press_hall_call` meets its contract. Assumes nothing.
 use mathlib.Core.Path.{_∙_}
-use borrow.Author.Tests.{le-leb, lt-leb}
 use Rattle.orders.specs.Orders.{pressHallCall}
-use borrow.Author.Needs.{needs}
 use Rattle.orders.proofs.press_hall_call.Statement.{statement}
 use Rattle.orders.proofs.press_hall_call.Tie as tie
 

@@ -1,3 +1,4 @@
+-- `beside::doors::door_is_closed` meets its contract. Assumes nothing.
 use Rattle.beside.proofs.doors.door_is_closed.Statement.{statement}
 use Rattle.beside.proofs.doors.door_is_closed.Tie as tie
 

@@ -1,3 +1,4 @@
+-- `beside::doors::door_is_open` meets its contract. Assumes nothing.
 use Rattle.beside.proofs.doors.door_is_open.Statement.{statement}
 use Rattle.beside.proofs.doors.door_is_open.Tie as tie
 

@@ -1,3 +1,4 @@
+-- `beside::doors::door_of` meets its contract. Assumes nothing.
 use native.Mathlib.Omega.{arith}
 use borrow.Author.Tests.{ne-eqb}
 use Rattle.beside.proofs.doors.door_of.Statement.{statement}

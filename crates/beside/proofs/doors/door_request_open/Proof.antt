@@ -1,3 +1,4 @@
+-- `beside::doors::door_request_open` meets its contract. Assumes nothing.
 use Rattle.beside.proofs.doors.door_request_open.Statement.{statement}
 use Rattle.beside.proofs.doors.door_request_open.Tie as tie
 

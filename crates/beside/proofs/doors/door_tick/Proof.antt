@@ -1,3 +1,4 @@
+-- `beside::doors::door_tick` meets its contract. Assumes nothing.
 use Rattle.beside.proofs.doors.door_tick.Statement.{statement}
 use Rattle.beside.proofs.doors.door_tick.Tie as tie
 

@@ -1,3 +1,4 @@
+-- `beside::doors::words` meets its contract. Assumes nothing.
 use Rattle.beside.proofs.doors.words.Statement.{statement}
 use Rattle.beside.proofs.doors.words.Tie as tie
 

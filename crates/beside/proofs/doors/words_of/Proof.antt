@@ -1,3 +1,4 @@
+-- `beside::doors::words_of` meets its contract. Assumes nothing.
 use borrow.Author.Needs.{needs}
 use Rattle.beside.proofs.doors.words_of.Statement.{statement}
 use Rattle.beside.proofs.doors.words_of.Tie as tie

@@ -1,3 +1,4 @@
+-- `door::DoorState::tick` meets its contract. Assumes nothing.
 use borrow.Author.Needs.{needs}
 use Rattle.door.proofs.DoorState.tick.Statement.{statement}
 use Rattle.door.proofs.DoorState.tick.Tie as tie

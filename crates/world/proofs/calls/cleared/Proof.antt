@@ -1,5 +1,5 @@
 -- `world::calls::cleared` meets its contract. Assumes nothing.
-use mathlib.Core.Path.{_≡_, sym, _∙_}
+use mathlib.Core.Path.{sym, _∙_}
 use borrow.Author.Needs.{needs}
 use Rattle.world.specs.Calls as Calls
 use Rattle.world.proofs.Bits.{bit-of, bit-held, no-bit}

@@ -1,8 +1,6 @@
 -- `world::sound::broken` meets its contract. Assumes nothing.
-use mathlib.Core.Path.{_≡_, sym, _∙_}
-use mathlib.Core.Bool.{false}
-use borrow.Author.Needs.{needs}
-use Rattle.world.specs.Sound.{broken, countsBroken}
+use mathlib.Core.Path.{sym, _∙_}
+use Rattle.world.specs.Sound.{broken}
 use Rattle.world.proofs.Unbroken.{Counts, counts-fit}
 use Rattle.world.proofs.sound.broken.Statement.{statement}
 use Rattle.world.proofs.sound.broken.Tie as tie
