@@ -19,6 +19,7 @@ enum End {
     Accepted,
     Refused(Refusal),
     Tick,
+    TooLong,
 }
 
 fn print(text: &[u8]) {
@@ -213,12 +214,12 @@ fn after(at: usize, used: usize, end: usize) -> usize
     at + used
 }
 
-// A tape's records taken, the words of the last, and how that was answered.
+// A tape's records taken, the words of the last, how that was answered, and the world then.
 struct Ran {
     records: u64,
     used: usize,
     end: End,
-    whole: bool,
+    world: World,
 }
 
 fn goes_on(end: End) -> bool {
@@ -226,6 +227,7 @@ fn goes_on(end: End) -> bool {
         End::Accepted => true,
         End::Refused(_) => false,
         End::Tick => true,
+        End::TooLong => false,
     }
 }
 
@@ -235,13 +237,13 @@ fn at_most_256(count: usize) -> usize
     if count < 256 { count } else { 256 }
 }
 
-// Record after record from an empty world, at most 64.
+// Record after record from an empty world, at most 200.
 fn run(words: [u32; 256], count: usize) -> Ran {
     let end = at_most_256(count);
     let mut world = empty();
     let mut at: usize = 0;
     let mut records: u64 = 0;
-    while records < 64 {
+    while records < 200 {
         let step = take(world, &words[at..end]);
         records += 1;
         let used = step.used;
@@ -253,19 +255,36 @@ fn run(words: [u32; 256], count: usize) -> Ran {
                 records,
                 used,
                 end: answer,
-                whole: at == end,
+                world,
             };
         }
     }
     Ran {
         records,
         used: 0,
-        end: End::Tick,
-        whole: false,
+        end: End::TooLong,
+        world,
     }
 }
 
 // ---- what is printed
+
+fn print_count(text: &[u8], count: usize) {
+    io::print_decimal(STDOUT_FILENO, count as u64);
+    print(text);
+}
+
+// What is loaded, and the hall calls as sets.
+fn print_world(world: World) {
+    print_count(b" stops ", world.stop_count);
+    print_count(b" lines ", world.line_count);
+    print_count(b" cars ", world.car_count);
+    print_count(b" riders, calls up ", world.rider_count);
+    io::print_hex(STDOUT_FILENO, world.up_calls, 1);
+    print(b" down ");
+    io::print_hex(STDOUT_FILENO, world.down_calls, 1);
+    print(b"\n");
+}
 
 fn print_end(ran: Ran) {
     let end = ran.end;
@@ -273,7 +292,9 @@ fn print_end(ran: Ran) {
         End::Accepted => {
             print(b"accepted, ");
             io::print_decimal(STDOUT_FILENO, ran.used as u64);
-            print(b" words\n");
+            print(b" words; ");
+            let world = ran.world;
+            print_world(world);
         }
         End::Refused(refusal) => {
             print(b"refused ");
@@ -283,6 +304,7 @@ fn print_end(ran: Ran) {
             print(b"\n");
         }
         End::Tick => print(b"a tick, read\n"),
+        End::TooLong => print(b"too long\n"),
     }
 }
 

@@ -82,7 +82,7 @@ loadCar w number line motion transition opening =
     w
     (withCars w (set (w .cars) number (newCar line motion transition opening)) (number + 1))
 
--- the count of riders with this number loaded: a new one is the next
+-- the count of riders once this number is loaded: one more where it is new
 abbrev pub countWith : ℕ → ℕ → ℕ
 countWith count number = cond (eqb number count) (number + 1) count
 

@@ -60,12 +60,12 @@ pub fn load_stop(world: World, number: u8, position: f64) -> Changed
     next.stops[at] = position;
     next.stop_count = at + 1;
     if at != world.stop_count {
-        return refused(world, Refusal::NotNext); // the table without the height
+        return refused(world, Refusal::NotNext); // the given world: the height is in `next` alone
     }
     accepted(next)
 }
 
-// The count of riders with this number loaded: a new one is the next.
+// The count of riders once this number is loaded: one more where it is new.
 fn count_with(count: usize, number: u8) -> usize
     ensures { λ r. ⌜ r ≡ Loads.countWith count number ⌝ }
 {

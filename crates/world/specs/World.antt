@@ -22,7 +22,7 @@ use Rattle.world.specs.declared.SpeedOption.the-variants.{NoSpeed}
 use Rattle.world.specs.declared.TickOption.the-variants.{NoTick}
 use Rattle.world.specs.declared.RiderPhase.the-variants.{Waiting}
 
--- ---- what stands past a table's end: no call looks at it
+-- ---- what a read past a table's end gives
 
 abbrev pub noMotion : Motion
 noMotion = record {

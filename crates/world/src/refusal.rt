@@ -3,7 +3,7 @@ ghost use mathlib.Core.Path.{_≡_};
 ghost use Rattle.world.specs.Refusal.{refusalNumber};
 
 pub enum Refusal {
-    // 0: a lent world that no records make
+    // 0: a lent world with a count, a queue, a counter or a number that records never make
     BrokenWorld,
     // 1: no word, or a body cut short
     CutShort,
@@ -17,7 +17,7 @@ pub enum Refusal {
     LogKind,
     // 6: a kind before or after start where it does not belong
     NotNow,
-    // 7: a record's own number that is not the next unused one
+    // 7: a record's own number that is not the next unused one; of a rider, one above it
     NotNext,
     // 8: a car, stop or line named but not loaded
     NotLoaded,

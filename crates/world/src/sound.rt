@@ -1,4 +1,4 @@
-// Refusal 0: whether a lent world holds what no records make.
+// Refusal 0: whether a lent world has a count, a queue, a counter or a number that records never make.
 ghost use mathlib.Core.Path.{_≡_};
 ghost use Prim.Native.Nat.{ℕ, _≤_, _^_};
 ghost use lib.Dec.{leb};

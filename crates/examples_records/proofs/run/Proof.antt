@@ -5,10 +5,10 @@ use Rattle.examples_records.proofs.run.Statement.{statement}
 use Rattle.examples_records.proofs.run.Tie as tie
 
 abbrev Inv-loop : tie.InvT-loop
-Inv-loop count words end world₀ at₀ records₀ world at records = (at ≤ end) × ((end ≤ 256) × (records ≤ 64))
+Inv-loop count words end world₀ at₀ records₀ world at records = (at ≤ end) × ((end ≤ 256) × (records ≤ 200))
 
 abbrev μ-loop : tie.MeasureT-loop
-μ-loop count words end world₀ at₀ records₀ world at records = 64 - records
+μ-loop count words end world₀ at₀ records₀ world at records = 200 - records
 
 loop-holds : tie.Need-loop-holds Inv-loop μ-loop
 loop-holds c = search needs
