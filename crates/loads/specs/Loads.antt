@@ -8,6 +8,7 @@ use lib.Ieee.{Float}
 use Rattle.world.specs.World.{newCar}
 use Rattle.world.specs.With.{withPlan, withCars, withPeople}
 use Rattle.world.specs.Sound.{unloaded, lineBroken, riderBroken}
+use Rattle.world.specs.Refusal.{Check, check}
 use Rattle.world.specs.declared.World.{World}
 use Rattle.world.specs.declared.Line.{Line}
 use Rattle.world.specs.declared.LineKind.{LineKind}
@@ -18,15 +19,7 @@ use Rattle.world.specs.declared.refusal.Refusal.the-variants.{NotNow, NotNext, 
 use Rattle.loads.specs.declared.Changed.{Changed}
 use Rattle.loads.specs.declared.Taken.the-variants.{Accepted, Refused}
 
--- ---- refusals as data
-
--- a refusal, and whether its condition holds
-pub record Check : Type 0 where
-  pub refusal : Refusal
-  pub holds : Bool
-
-abbrev pub check : Refusal → Bool → Check
-check r b = record { refusal = r; holds = b }
+-- ---- what the state says
 
 abbrev pub refused : World → Refusal → Changed
 refused w r = record { taken = Refused r; world = w }

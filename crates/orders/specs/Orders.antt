@@ -18,7 +18,8 @@ use Rattle.world.specs.declared.StopOption.the-variants.{Stop}
 use Rattle.world.specs.declared.SpeedOption.{SpeedOption}
 use Rattle.world.specs.declared.refusal.Refusal.the-variants.{NotNow, NotLoaded, CannotGo, QueueFull}
 use Rattle.loads.specs.declared.Changed.{Changed}
-use Rattle.loads.specs.Loads.{check, unless, noSuchCar}
+use Rattle.world.specs.Refusal.{check}
+use Rattle.loads.specs.Loads.{unless, noSuchCar}
 
 -- whether a car may be sent: Idle or Stopped
 abbrev pub canGo : ElevatorPhase → Bool

@@ -7,19 +7,19 @@ use native.Mathlib.Omega.{arith}
 use lib.Dec.{ltb, leb, eqb}
 use lib.ListN.{length, getD}
 use borrow.Author.Tests.{ltb-false, leb-true, eqb-false}
-use Rattle.world.specs.Refusal.{refusalNumber}
+use Rattle.world.specs.Refusal.{Check, check, refusalNumber}
 use Rattle.world.specs.declared.refusal.Refusal.{Refusal}
 use Rattle.world.specs.declared.refusal.Refusal.the-variants.{CutShort, UnknownKind}
 use Rattle.motion.proofs.Cases.{and-left, and-right}
 use Rattle.tape.specs.declared.head.Head.{Head}
 use Rattle.tape.specs.declared.Decoded.{Decoded}
-use Rattle.tape.specs.Tape.{Check, Deed, Kind, kindIn, kinds, refusal, refused, unless, answer, headOf, servesCount, lineRecord, stopRecord, carRecord, riderRecord, sendRecord, modeRecord, manualSpeedRecord, doorCommandRecord, hallCallRecord, destinationRecord, enableRecord, tickRecord, startRecord, recordOf, decoded}
+use Rattle.tape.specs.Tape.{Deed, Kind, kindIn, kinds, refused, unless, answer, headOf, servesCount, lineRecord, stopRecord, carRecord, riderRecord, sendRecord, modeRecord, manualSpeedRecord, doorCommandRecord, hallCallRecord, destinationRecord, enableRecord, tickRecord, startRecord, recordOf, decoded}
 use Rattle.tape.specs.Facts.{InBounds, Facts}
 
 -- every refusal of the checks is 1 to 4
 abbrev known : List Check → Bool
 known [] = true
-known (c ∷ cs) = (leb 1 (refusalNumber (c .answer)) && leb (refusalNumber (c .answer)) 4) && known cs
+known (c ∷ cs) = (leb 1 (refusalNumber (c .refusal)) && leb (refusalNumber (c .refusal)) 4) && known cs
 
 abbrev Passed : List Check → Type 0
 Passed [] = Unit
@@ -36,10 +36,10 @@ module _ (ws : List ℕ) where
   unless-in : (cs : List Check) (d : Decoded) → known cs ≡ true → (Passed cs → Fine d) → Fine (unless cs d)
   unless-in [] d e h = h tt
   unless-in (c ∷ cs) d e h =
-      let n = leb 1 (refusalNumber (c .answer)) && leb (refusalNumber (c .answer)) 4 in
-      either (c .holds) (refused-in (c .answer) (and-left n (known cs) e)) (λ f. unless-in cs d (and-right n (known cs) e) (λ q. h (f, q)))
+      let n = leb 1 (refusalNumber (c .refusal)) && leb (refusalNumber (c .refusal)) 4 in
+      either (c .holds) (refused-in (c .refusal) (and-left n (known cs) e)) (λ f. unless-in cs d (and-right n (known cs) e) (λ q. h (f, q)))
     where
-      either : (b : Bool) → Fine (refused (c .answer)) → (b ≡ false → Fine (unless cs d)) → Fine (cond b (refused (c .answer)) (unless cs d))
+      either : (b : Bool) → Fine (refused (c .refusal)) → (b ≡ false → Fine (unless cs d)) → Fine (cond b (refused (c .refusal)) (unless cs d))
       either true p q = p
       either false p q = q refl
 
@@ -86,6 +86,6 @@ pub in-bounds : Facts
 unfolding Facts decoded
 in-bounds ws = go (eqb (length ws) 0) refl
   where
-    go : (b : Bool) → eqb (length ws) 0 ≡ b → InBounds ws (unless (refusal CutShort b ∷ []) (recordOf (headOf (getD ws 0 0)) ws) .read)
+    go : (b : Bool) → eqb (length ws) 0 ≡ b → InBounds ws (unless (check CutShort b ∷ []) (recordOf (headOf (getD ws 0 0)) ws) .read)
     go true e = (omega arith, omega arith)
     go false e = let n : (length ws ≡ 0) → ⊥ = eqb-false (length ws) 0 e in record-in ws (headOf (getD ws 0 0)) (omega arith)

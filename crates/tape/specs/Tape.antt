@@ -8,6 +8,7 @@ use lib.Ieee.{Float, binary64, lt, le, ofBits}
 use Rattle.motion.specs.Float as F64
 use Rattle.door.specs.declared.DoorCommand.{DoorCommand}
 use Rattle.door.specs.declared.DoorCommand.the-variants as Command
+use Rattle.world.specs.Refusal.{Check, check}
 use Rattle.world.specs.declared.refusal.Refusal.{Refusal}
 use Rattle.world.specs.declared.refusal.Refusal.the-variants.{CutShort, UnknownKind, FieldOutside, FloatOutside}
 use Rattle.world.specs.declared.LineKind.{LineKind}
@@ -99,14 +100,6 @@ outsideAboveZero x most = not (F64.isFinite x) || le x F64.zero || lt most x
 
 -- ---- checks: "Checked in the order of the numbers"; "on its condition and on no other"
 
--- a refusal, and whether its condition holds
-pub record Check : Type 0 where
-  pub answer : Refusal
-  pub holds : Bool
-
-abbrev pub refusal : Refusal → Bool → Check
-refusal r b = record { answer = r; holds = b }
-
 -- an answer without a list
 abbrev pub alone : Read → Decoded
 alone r = record { read = r; serves = replicate 64 0 }
@@ -121,7 +114,7 @@ accepted r used = alone (Accepted r used)
 -- the first refusal whose condition holds, else the answer
 abbrev pub unless : List Check → Decoded → Decoded
 unless [] d = d
-unless (c ∷ cs) d = cond (c .holds) (refused (c .answer)) (unless cs d)
+unless (c ∷ cs) d = cond (c .holds) (refused (c .refusal)) (unless cs d)
 
 -- a record: its checks in order, and the answer where none holds
 pub record Deed : Type 0 where
@@ -160,10 +153,10 @@ lineRecord h ws =
     let count = servesCount (h .v) in
     record {
       checks =
-          refusal FieldOutside (ltb 64 (h .v) && not (eqb (h .v) 65535))
-          ∷ refusal CutShort (ltb (length ws) (5 + count))
-          ∷ refusal FieldOutside (lineFieldsOutside h ws || servesOutside ws count)
-          ∷ refusal FloatOutside (lineFloatsOutside h ws)
+          check FieldOutside (ltb 64 (h .v) && not (eqb (h .v) 65535))
+          ∷ check CutShort (ltb (length ws) (5 + count))
+          ∷ check FieldOutside (lineFieldsOutside h ws || servesOutside ws count)
+          ∷ check FloatOutside (lineFloatsOutside h ws)
           ∷ [];
       done = record { read = Accepted (Record.Line (h .n) (lineKindOf h ws) (not (eqb (h .v) 65535)) count) (5 + count); serves = servesTo ws count };
     }
@@ -173,9 +166,9 @@ lineRecord h ws =
 abbrev pub stopRecord : Head → List ℕ → Deed
 stopRecord h ws = record {
   checks =
-      refusal CutShort (ltb (length ws) 3)
-      ∷ refusal FieldOutside (nonzero (h .n) || notStop (h .s) || nonzero (h .v))
-      ∷ refusal FloatOutside (outsideSize (floatAt ws 1) million)
+      check CutShort (ltb (length ws) 3)
+      ∷ check FieldOutside (nonzero (h .n) || notStop (h .s) || nonzero (h .v))
+      ∷ check FloatOutside (outsideSize (floatAt ws 1) million)
       ∷ [];
   done = accepted (Record.Stop (h .s) (floatAt ws 1)) 3;
 }
@@ -204,9 +197,9 @@ motionOutside m =
 abbrev pub carRecord : Head → List ℕ → Deed
 carRecord h ws = record {
   checks =
-      refusal CutShort (ltb (length ws) 15)
-      ∷ refusal FieldOutside (notLine (h .s) || nonzero (h .v))
-      ∷ refusal FloatOutside (motionOutside (motionAt ws))
+      check CutShort (ltb (length ws) 15)
+      ∷ check FieldOutside (notLine (h .s) || nonzero (h .v))
+      ∷ check FloatOutside (motionOutside (motionAt ws))
       ∷ [];
   done = accepted (Record.Car (h .n) (h .s) (motionAt ws) (getD ws 13 0) (getD ws 14 0)) 15;
 }
@@ -247,8 +240,8 @@ riderRecord h ws =
     let b = riderBody (getD ws 1 0) in
     record {
       checks =
-          refusal CutShort (ltb (length ws) 2)
-          ∷ refusal FieldOutside (nonzero (h .n) || notRider (h .s) || notStop (h .v) && not (eqb (h .v) 65535) || riderBodyOutside b)
+          check CutShort (ltb (length ws) 2)
+          ∷ check FieldOutside (nonzero (h .n) || notRider (h .s) || notStop (h .v) && not (eqb (h .v) 65535) || riderBodyOutside b)
           ∷ [];
       done = accepted (Record.Rider (h .s) (record { destination = stopOption (h .v); phase = riderPhase (b .phase) (b .car); aboard = carOption (b .aboard) })) 2;
     }
@@ -258,7 +251,7 @@ riderRecord h ws =
 abbrev pub sendRecord : Head → Deed
 sendRecord h = record {
   checks =
-      refusal FieldOutside (notStop (h .s) || ltb 1 (h .v))
+      check FieldOutside (notStop (h .s) || ltb 1 (h .v))
       ∷ [];
   done = accepted (Record.Send (h .n) (h .s) (eqb (h .v) 1)) 1;
 }
@@ -271,7 +264,7 @@ modeOf v = cond (eqb v 0) Normal (cond (eqb v 1) Independent (cond (eqb v 2) Ins
 abbrev pub modeRecord : Head → Deed
 modeRecord h = record {
   checks =
-      refusal FieldOutside (nonzero (h .s) || ltb 4 (h .v))
+      check FieldOutside (nonzero (h .s) || ltb 4 (h .v))
       ∷ [];
   done = accepted (Record.Mode (h .n) (modeOf (h .v))) 1;
 }
@@ -284,9 +277,9 @@ speedOf v speed = cond (eqb v 1) (Speed speed) NoSpeed
 abbrev pub manualSpeedRecord : Head → List ℕ → Deed
 manualSpeedRecord h ws = record {
   checks =
-      refusal CutShort (ltb (length ws) 3)
-      ∷ refusal FieldOutside (nonzero (h .s) || ltb 1 (h .v) || eqb (h .v) 0 && not (rawZeroAt ws 1))
-      ∷ refusal FloatOutside (eqb (h .v) 1 && outsideSize (floatAt ws 1) thousand)
+      check CutShort (ltb (length ws) 3)
+      ∷ check FieldOutside (nonzero (h .s) || ltb 1 (h .v) || eqb (h .v) 0 && not (rawZeroAt ws 1))
+      ∷ check FloatOutside (eqb (h .v) 1 && outsideSize (floatAt ws 1) thousand)
       ∷ [];
   done = accepted (Record.ManualSpeed (h .n) (speedOf (h .v) (floatAt ws 1))) 3;
 }
@@ -299,7 +292,7 @@ commandOf s v = cond (eqb s 0) Command.Open (cond (eqb s 1) Command.Close (cond 
 abbrev pub doorCommandRecord : Head → Deed
 doorCommandRecord h = record {
   checks =
-      refusal FieldOutside (ltb 3 (h .s) || not (eqb (h .s) 2) && nonzero (h .v))
+      check FieldOutside (ltb 3 (h .s) || not (eqb (h .s) 2) && nonzero (h .v))
       ∷ [];
   done = accepted (Record.DoorCommand (h .n) (commandOf (h .s) (h .v))) 1;
 }
@@ -309,7 +302,7 @@ doorCommandRecord h = record {
 abbrev pub hallCallRecord : Head → Deed
 hallCallRecord h = record {
   checks =
-      refusal FieldOutside (nonzero (h .n) || notStop (h .s) || ltb 1 (h .v))
+      check FieldOutside (nonzero (h .n) || notStop (h .s) || ltb 1 (h .v))
       ∷ [];
   done = accepted (Record.HallCall (h .s) (eqb (h .v) 1)) 1;
 }
@@ -319,7 +312,7 @@ hallCallRecord h = record {
 abbrev pub destinationRecord : Head → Deed
 destinationRecord h = record {
   checks =
-      refusal FieldOutside (notStop (h .s) || nonzero (h .v))
+      check FieldOutside (notStop (h .s) || nonzero (h .v))
       ∷ [];
   done = accepted (Record.Destination (h .n) (h .s)) 1;
 }
@@ -329,7 +322,7 @@ destinationRecord h = record {
 abbrev pub enableRecord : Head → Deed
 enableRecord h = record {
   checks =
-      refusal FieldOutside (nonzero (h .s) || ltb 1 (h .v))
+      check FieldOutside (nonzero (h .s) || ltb 1 (h .v))
       ∷ [];
   done = accepted (Record.Enable (h .n) (eqb (h .v) 0)) 1;
 }
@@ -343,9 +336,9 @@ anyFieldSet h = nonzero (h .n) || nonzero (h .s) || nonzero (h .v)
 abbrev pub tickRecord : Head → List ℕ → Deed
 tickRecord h ws = record {
   checks =
-      refusal CutShort (ltb (length ws) 3)
-      ∷ refusal FieldOutside (anyFieldSet h)
-      ∷ refusal FloatOutside (outsideAboveZero (floatAt ws 1) F64.one)
+      check CutShort (ltb (length ws) 3)
+      ∷ check FieldOutside (anyFieldSet h)
+      ∷ check FloatOutside (outsideAboveZero (floatAt ws 1) F64.one)
       ∷ [];
   done = accepted (Record.Tick (floatAt ws 1)) 3;
 }
@@ -355,7 +348,7 @@ tickRecord h ws = record {
 abbrev pub startRecord : Head → Deed
 startRecord h = record {
   checks =
-      refusal FieldOutside (anyFieldSet h)
+      check FieldOutside (anyFieldSet h)
       ∷ [];
   done = accepted Record.Start 1;
 }
@@ -395,4 +388,4 @@ unfoldable pub recordOf : Head → List ℕ → Decoded
 recordOf h ws = kindIn (h .kind) (kinds h ws)
 
 unfoldable pub decoded : List ℕ → Decoded
-decoded ws = unless (refusal CutShort (eqb (length ws) 0) ∷ []) (recordOf (headOf (getD ws 0 0)) ws)
+decoded ws = unless (check CutShort (eqb (length ws) 0) ∷ []) (recordOf (headOf (getD ws 0 0)) ws)

@@ -7,7 +7,8 @@ pub mod facts; // claims about the definitions
 
 ghost use mathlib.Core.Path.{_≡_};
 ghost use mathlib.Core.List.{[], _∷_};
-ghost use Rattle.tape.specs.Tape.{unless, refusal, accepted, refused, decoded};
+ghost use Rattle.tape.specs.Tape.{unless, accepted, refused, decoded};
+ghost use Rattle.world.specs.Refusal.{check};
 use door::DoorCommand;
 use head::head_of;
 use world::LineKind;
@@ -105,7 +106,7 @@ fn checked(
     found: Record,
     used: usize,
 ) -> Decoded
-    ensures { λ r. ⌜ r ≡ unless (refusal Refusal.CutShort «cut_short» ∷ refusal Refusal.FieldOutside «field_outside» ∷ refusal Refusal.FloatOutside «float_outside» ∷ []) (accepted found used) ⌝ }
+    ensures { λ r. ⌜ r ≡ unless (check Refusal.CutShort «cut_short» ∷ check Refusal.FieldOutside «field_outside» ∷ check Refusal.FloatOutside «float_outside» ∷ []) (accepted found used) ⌝ }
 {
     if cut_short {
         return refused(Refusal::CutShort);

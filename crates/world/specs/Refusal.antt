@@ -1,4 +1,5 @@
--- The paper's number of each refusal.
+-- The paper's number of each refusal, and a refusal's condition as data.
+use mathlib.Core.Bool.{Bool}
 use Prim.Native.Nat.{ℕ}
 use Rattle.world.specs.declared.refusal.Refusal.{Refusal}
 use Rattle.world.specs.declared.refusal.Refusal.the-variants.{BrokenWorld, CutShort, UnknownKind, FieldOutside, FloatOutside, LogKind, NotNow, NotNext, NotLoaded, CannotGo, QueueFull, LastTick, LogShort}
@@ -17,3 +18,11 @@ refusalNumber CannotGo = 9
 refusalNumber QueueFull = 10
 refusalNumber LastTick = 11
 refusalNumber LogShort = 12
+
+-- a refusal, and whether its condition holds: "a refusal is given on its condition and on no other"
+pub record Check : Type 0 where
+  pub refusal : Refusal
+  pub holds : Bool
+
+abbrev pub check : Refusal → Bool → Check
+check r b = record { refusal = r; holds = b }
