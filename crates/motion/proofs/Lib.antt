@@ -1,5 +1,6 @@
 pub mod Cases
 pub mod Rounding
 pub mod Circle
+pub mod Headway
 pub mod Sides
 pub mod Total

@@ -5,7 +5,8 @@ use Rattle.motion.specs.Float.{abs, isFinite, max, remEuclid}
 use Rattle.motion.specs.Cyclic.{wrapPosition, forwardDistance}
 use Rattle.motion.specs.Movement.{headwayClampTarget}
 use Rattle.motion.specs.Facts.{HeadwayOnLargeCircle}
-use Rattle.motion.proofs.Circle.{wrap-in-circle, forward-in-circle, forward-is-number, headway-in-circle}
+use Rattle.motion.proofs.Circle.{wrap-in-circle, forward-in-circle, forward-is-number}
+use Rattle.motion.proofs.Headway.{headway-in-circle}
 use Rattle.motion.proofs.Sides.{epsilon-keeps-side}
 use Rattle.motion.proofs.Total.{total-order}
 use Rattle.motion.proofs.facts.facts.Statement.{statement}
