@@ -66,7 +66,7 @@ below-through true false true a b c e d g E D G p q =
     le-ltb (a * g) (c * e) (omega arith)
 below-through true true true a b c e d g E D G p q = le-ltb (a * g) (c * e) (chain c b a g d e D (ltb-false (b * g) (c * d) q) (ltb-false (a * d) (b * e) p))
 
-not-both : (p q : Float) → positionBefore p q ≡ true → positionBefore q p ≡ false
+pub not-both : (p q : Float) → positionBefore p q ≡ true → positionBefore q p ≡ false
 unfolding positionBefore lt isNan
 not-both nan q h = no h
 not-both (inf true) nan h = refl
@@ -82,7 +82,7 @@ not-both (fin s m e) (inf true) h = no h
 not-both (fin s m e) (inf false) h = refl
 not-both (fin s m e) (fin t n d) h = plain _ ∙ below-not s (m * up e * down d) t (n * up d * down e) (sym (plain _) ∙ h)
 
-not-through : (p q r : Float) → positionBefore q p ≡ false → positionBefore r q ≡ false → positionBefore r p ≡ false
+pub not-through : (p q r : Float) → positionBefore q p ≡ false → positionBefore r q ≡ false → positionBefore r p ≡ false
 unfolding positionBefore lt isNan
 not-through nan nan r h k = k
 not-through nan (inf t) r h k = yes h
@@ -129,7 +129,7 @@ module _ (stops : List Float) where
   at i = stopAt stops i
 
   -- the later is not before the earlier
-  not-later : (i j : ℕ) → stopBefore stops i j ≡ true → positionBefore (at j) (at i) ≡ false
+  pub not-later : (i j : ℕ) → stopBefore stops i j ≡ true → positionBefore (at j) (at i) ≡ false
   unfolding stopBefore
   not-later i j h = third (positionBefore (at i) (at j)) (positionBefore (at j) (at i)) (ltb i j) (not-both (at i) (at j)) h
 

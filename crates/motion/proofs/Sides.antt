@@ -23,7 +23,7 @@ truly {b} = go b
     go false t = absurd t
 
 -- the order of two floats with no sign, turned round where both get one
-flip : (x y : Float) → Plus x → Plus y → T (le x y) → le (neg y) (neg x) ≡ true
+pub flip : (x y : Float) → Plus x → Plus y → T (le x y) → le (neg y) (neg x) ≡ true
 unfolding le neg
 flip nan y p q t = absurd p
 flip (inf s) nan p q t = absurd q
@@ -47,7 +47,7 @@ flip (fin false m e) (fin false n d) p q t = turned (m * up e * down d) (n * up 
         go false e = let same : b ≡ a = omega (arith, ltb-false a b e) in rw (eq-eqb b a same)
 
 -- what has a sign is at most what has none
-astride : (a b : ℕ) → (ltb 0 (a + b) || (eqb a b && eqb a 0)) ≡ true
+pub astride : (a b : ℕ) → (ltb 0 (a + b) || (eqb a b && eqb a 0)) ≡ true
 astride zero zero = refl
 astride zero (suc b) = rw (lt-ltb 0 (0 + suc b) (omega arith))
 astride (suc a) b = rw (lt-ltb 0 (suc a + b) (omega arith))

@@ -1,0 +1,4 @@
+pub mod Trips
+pub mod Spans
+pub mod Landing
+pub mod Arrival
