@@ -1,0 +1,4 @@
+pub mod Thresholds
+pub mod Counting
+pub mod Emitting
+pub mod Moving
