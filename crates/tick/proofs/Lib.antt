@@ -1,0 +1,5 @@
+pub mod Apart
+pub mod Passed
+pub mod Turns
+pub mod Runs
+pub mod Proved

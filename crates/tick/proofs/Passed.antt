@@ -1,0 +1,88 @@
+-- A car passes as many stops as are loaded at most: the two ranges at a seam share none. Assumes nothing.
+use mathlib.Core.Path.{_≡_, refl}
+use mathlib.Core.Bool.{Bool, true, false, _&&_, cond}
+use mathlib.Core.List.{List}
+use Prim.Native.Nat.{ℕ, _-_, _≤_}
+use native.Mathlib.Omega.{arith}
+use lib.ListN.{length, take, drop, length-append, length-take}
+use lib.Ieee.{Float, binary64, add, sub, lt, le}
+use Rattle.motion.specs.Float as Float
+use Rattle.motion.specs.Float.{epsilon}
+use Rattle.motion.proofs.Cases.{and-left}
+use Rattle.world.specs.World.{stopAt}
+use Rattle.world.specs.declared.LineKind.{LineKind}
+use Rattle.world.specs.declared.LineKind.the-variants.{Linear, Loop}
+use Rattle.world.specs.declared.StopOption.{StopOption}
+use Rattle.lookup.specs.Sorted.{sortedStops}
+use Rattle.trips.specs.Spans.{spanOf, manualSpan}
+use Rattle.trips.specs.declared.span.Span.{Span}
+use Rattle.trips.specs.declared.span.Span.the-variants.{Range, Seam}
+use Rattle.movement_system.specs.Passing.{startOf, endOf, between, emitRange, loThreshold}
+use Rattle.movement_system.specs.Movement.{passedOver}
+use Rattle.movement_system.proofs.Counting.{count-grows, start-most, end-most}
+use Rattle.movement_system.proofs.Emitting.{without-most}
+use Rattle.tick.proofs.Apart.{ends-apart}
+
+-- a choice has what both its sides have
+pub both : {A : Type 0} (P : A → Type 0) (b : Bool) {x y : A} → P x → P y → P (cond b x y)
+both P true p q = p
+both P false p q = q
+
+-- and with the test known
+pub cases : {A : Type 0} (P : A → Type 0) (b : Bool) {x y : A} → (b ≡ true → P x) → (b ≡ false → P y) → P (cond b x y)
+cases P true p q = p refl
+cases P false p q = q refl
+
+module _ (stops : List Float) (n : ℕ) (target : StopOption) where
+  abbrev ss : List ℕ
+  ss = sortedStops stops n
+
+  -- a range lies between its two places
+  range-size : (lo hi : Float) (inclusive : Bool)
+      → length (emitRange stops ss target lo hi inclusive) ≤ endOf stops ss (sub binary64 hi epsilon) - startOf stops ss (loThreshold lo inclusive)
+  unfolding emitRange between
+  range-size lo hi inclusive =
+      both (λ (l : List ℕ). length l ≤ to - from) (le hi (add binary64 lo epsilon)) (omega arith)
+      (omega (arith, without-most target (take (to - from) (drop from ss)), length-take (to - from) (drop from ss)))
+    where
+      from : ℕ
+      from = startOf stops ss (loThreshold lo inclusive)
+
+      to : ℕ
+      to = endOf stops ss (sub binary64 hi epsilon)
+
+  -- what is passed after the seam ends where what is passed before it begins
+  seam-apart : (old new : Float) → lt new old ≡ true → endOf stops ss (sub binary64 new epsilon) ≤ startOf stops ss (add binary64 old epsilon)
+  unfolding endOf startOf
+  seam-apart old new h = count-grows _ _ (λ s. ends-apart new old (stopAt stops s) h) ss
+
+  abbrev Fits : Span → Type 0
+  Fits span = length (passedOver span stops n target) ≤ n
+
+  range-fits : (lo hi : Float) → Fits (Range lo hi)
+  range-fits lo hi = omega (arith, range-size lo hi false, end-most stops n (sub binary64 hi epsilon))
+
+  seam-fits : (old circumference new : Float) → lt new old ≡ true → Fits (Seam old circumference new)
+  seam-fits old circumference new h =
+      omega (
+        arith,
+        length-append (emitRange stops ss target old circumference false) (emitRange stops ss target Float.zero new true),
+        range-size old circumference false,
+        range-size Float.zero new true,
+        seam-apart old new h,
+        end-most stops n (sub binary64 circumference epsilon),
+        start-most stops n (add binary64 old epsilon),
+      )
+
+  pub span-fits : (kind : LineKind) (old new : Float) → Fits (spanOf kind old new)
+  span-fits Linear old new = both Fits (lt old new) (range-fits old new) (range-fits new old)
+  span-fits (Loop circumference headway) old new = cases Fits (lt new old) (seam-fits old circumference new) (λ e. range-fits old new)
+
+  ranges-fit : (old new : Float) → Fits (cond (le old new) (Range old new) (Range new old))
+  ranges-fit old new = both Fits (le old new) (range-fits old new) (range-fits new old)
+
+  pub manual-fits : (kind : LineKind) (old new velocity : Float) → Fits (manualSpan kind old new velocity)
+  manual-fits Linear old new velocity = ranges-fit old new
+  manual-fits (Loop circumference headway) old new velocity =
+      cases Fits (lt new old && le Float.zero velocity)
+      (λ e. seam-fits old circumference new (and-left (lt new old) (le Float.zero velocity) e)) (λ e. ranges-fit old new)

@@ -1,0 +1,49 @@
+-- `tick::traps` meets its contract: every example computes. Assumes nothing.
+use mathlib.Core.Path.{refl}
+use lib.Ieee.{ofBits, add, sub, mul, div, rem, neg, lt, le, eq, isNan}
+use Rattle.motion.specs.Float.{abs, signum, isFinite, max, remEuclid}
+use Rattle.motion.specs.Cyclic.{wrapPosition, forwardDistance}
+use Rattle.motion.specs.Movement.{decelerated, accelerated, newVelocity, tickMovement, tickMovementCyclic, headwayClampTarget}
+use Rattle.world.specs.Calls.{called}
+use Rattle.world.specs.World.{emptyWorld}
+use Rattle.lookup.specs.Stops.{loopNextStopForCar}
+use Rattle.lookup.specs.Leader.{leaderTo, loopLeaderPos}
+use Rattle.lookup.specs.Sorted.{positionBefore, stopBefore, inserted, sortedStops}
+use Rattle.log.specs.Words.{word, tickWord}
+use Rattle.steps.specs.Steps.{plus, lineOf, runTo, runCars}
+use Rattle.trips.specs.Arrival.{ridersTo, queuedTo, directionFromRemainingWork, popped}
+use Rattle.movement_system.specs.Passing.{countIn, startOf, endOf, between, unlessTarget, without, emitRange, passingWords}
+use Rattle.movement_system.specs.Movement.{moveOf, moved}
+use Rattle.doors_system.specs.Commands.{workTo, workWordsTo, processDoorCommands, commandWords}
+use Rattle.doors_system.specs.Doors.{doorOf, clearWord, clearTo, clearWordsTo, doored, doorsWorld, doorsWords}
+use Rattle.tick.specs.Tick.{tickWorld, tickWords}
+use Rattle.tick.specs.Room.{roomOf}
+use Rattle.tick.specs.Traps.{Traps, worldAfter, told}
+use Rattle.tick.proofs.traps.Statement.{statement}
+use Rattle.tick.proofs.traps.Tie as tie
+
+traps : Traps
+unfolding worldAfter told roomOf emptyWorld tickWorld tickWords moved moveOf doorsWorld doorsWords doored doorOf clearWord clearTo clearWordsTo workTo workWordsTo processDoorCommands commandWords countIn startOf endOf between unlessTarget without emitRange passingWords ridersTo queuedTo directionFromRemainingWork popped plus lineOf runTo runCars word tickWord positionBefore stopBefore inserted sortedStops leaderTo loopLeaderPos loopNextStopForCar called decelerated accelerated newVelocity tickMovement tickMovementCyclic headwayClampTarget wrapPosition forwardDistance abs signum isFinite max remEuclid ofBits add sub mul div rem neg lt le eq isNan
+traps = record {
+  plusZero = refl;
+  minusZero = refl;
+  goesOn = refl;
+  isThere = refl;
+  endsOnStop = refl;
+  neitherTick = refl;
+  leads = refl;
+  follows = refl;
+  heldArrives = refl;
+  doorSteps = refl;
+  notEarly = refl;
+  first = refl;
+  second = refl;
+  writesNone = refl;
+  seam = refl;
+  output = refl;
+  moves = refl;
+  room = refl;
+}
+
+pub traps-spec : {M : Type 1} → statement M
+traps-spec = tie.close (tie.spec (λ c. (refl, traps)))

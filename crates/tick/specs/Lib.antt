@@ -1,0 +1,4 @@
+pub mod Tick
+pub mod Room
+pub mod Counters
+pub mod Traps
