@@ -7,6 +7,8 @@ use beside_rust::inputs::Draw;
 use beside_rust::ours::{self, MovementResult};
 
 mod rust;
+#[cfg(feature = "ticks")]
+mod ticks;
 
 /// Argument tuples of a formula.
 const TUPLES: usize = 8192;
@@ -23,6 +25,8 @@ fn main() {
     motion();
     #[cfg(feature = "beside")]
     beside();
+    #[cfg(feature = "ticks")]
+    ticks::measure();
 }
 
 /// Times one formula and prints its line.

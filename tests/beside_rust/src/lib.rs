@@ -1,5 +1,6 @@
 //! What the comparison and the benchmark share.
 
 pub mod answer;
-pub mod inputs;
 pub mod ours;
+
+pub use inputs;

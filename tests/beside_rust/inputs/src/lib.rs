@@ -67,11 +67,11 @@ impl Draw {
     }
 
     /// True once in n.
-    fn once_in(&mut self, n: u64) -> bool {
+    pub fn once_in(&mut self, n: u64) -> bool {
         self.below(n) == 0
     }
 
-    fn one_of<T: Copy>(&mut self, values: &[T]) -> T {
+    pub fn one_of<T: Copy>(&mut self, values: &[T]) -> T {
         values[self.below(values.len() as u64) as usize]
     }
 
@@ -96,7 +96,7 @@ impl Draw {
     }
 
     /// About 1e-9, the EPSILON of movement.rs.
-    fn epsilon(&mut self) -> f64 {
+    pub fn epsilon(&mut self) -> f64 {
         let e = match self.below(4) {
             0 => 1e-9,
             1 => self.near(1e-9),

@@ -1,0 +1,266 @@
+//! The Rust's systems under a tape, and the text that they answer.
+
+use std::fmt::Write;
+
+use elevator_core::components::{CallDirection, ElevatorPhase, LineKind, ServiceMode};
+use elevator_core::door::DoorState;
+use elevator_core::study::{CarState, Motion, Study};
+
+use crate::record::{Record, code_of};
+
+/// A car as records told it.
+#[derive(Debug, Clone)]
+pub struct Told {
+    pub line: usize,
+    pub motion: Motion,
+    pub mode: ServiceMode,
+    pub speed: Option<f64>,
+}
+
+pub struct Line {
+    pub kind: LineKind,
+    pub serves: Option<Vec<usize>>,
+}
+
+pub enum Answer {
+    Accepted,
+    Refused(u32),
+    /// A tick's log words.
+    Ticked(Vec<u32>),
+}
+
+/// A world and the records that made it.
+pub struct Player {
+    pub study: Study,
+    pub stops: Vec<f64>,
+    pub lines: Vec<Line>,
+    pub cars: Vec<Told>,
+    pub riders: usize,
+}
+
+impl Player {
+    pub fn new() -> Self {
+        Self {
+            study: Study::new(),
+            stops: Vec::new(),
+            lines: Vec::new(),
+            cars: Vec::new(),
+            riders: 0,
+        }
+    }
+
+    /// Takes a record. Of the refusals only 9 and 10 are looked for.
+    pub fn take(&mut self, record: &Record) -> Answer {
+        if let Some(number) = self.refusal(record) {
+            return Answer::Refused(number);
+        }
+        match record {
+            Record::Line { kind, serves, .. } => {
+                self.study.line(*kind, serves.as_deref());
+                self.lines.push(Line {
+                    kind: *kind,
+                    serves: serves.clone(),
+                });
+            }
+            Record::Stop { position, .. } => {
+                self.study.stop(*position);
+                self.stops.push(*position);
+            }
+            Record::Car {
+                line,
+                motion,
+                transition_ticks,
+                open_ticks,
+                ..
+            } => {
+                self.study
+                    .car(*line, *motion, *transition_ticks, *open_ticks);
+                self.cars.push(Told {
+                    line: *line,
+                    motion: *motion,
+                    mode: ServiceMode::Normal,
+                    speed: None,
+                });
+            }
+            Record::Rider {
+                number,
+                phase,
+                destination,
+                aboard,
+            } => {
+                self.study.rider(*number, *phase, *destination, *aboard);
+                self.riders = self.riders.max(number + 1);
+            }
+            Record::Start => self.study.start(),
+            Record::Tick { dt } => return Answer::Ticked(self.study.tick(*dt)),
+            _ => self.order(record),
+        }
+        Answer::Accepted
+    }
+
+    /// Kinds 5 to B.
+    fn order(&mut self, record: &Record) {
+        match *record {
+            Record::Send {
+                car,
+                stop,
+                reposition,
+            } => self.study.send(car, stop, reposition),
+            Record::Mode { car, mode } => {
+                self.study.set_mode(car, mode);
+                self.cars[car].mode = mode;
+            }
+            Record::ManualSpeed { car, speed } => {
+                self.study.set_manual_speed(car, speed);
+                self.cars[car].speed = speed;
+            }
+            Record::Command { car, command } => self.study.door_command(car, command),
+            Record::HallCall { stop, direction } => self.study.hall_call(stop, direction),
+            Record::Destination { car, stop } => self.study.destination(car, stop),
+            Record::Enable { car, enabled } => self.study.set_enabled(car, enabled),
+            _ => unreachable!("taken before"),
+        }
+    }
+
+    fn refusal(&self, record: &Record) -> Option<u32> {
+        match *record {
+            Record::Send { car, .. } => (!self.free(car)).then_some(9),
+            Record::Command { car, .. } => {
+                (self.study.car_state(car).commands.len() >= 8).then_some(10)
+            }
+            Record::Destination { car, .. } => {
+                (self.study.car_state(car).destinations.len() >= 8).then_some(10)
+            }
+            _ => None,
+        }
+    }
+
+    /// Whether a send to the car is taken.
+    pub fn free(&self, car: usize) -> bool {
+        let state = self.study.car_state(car);
+        let free = matches!(state.phase, ElevatorPhase::Idle | ElevatorPhase::Stopped);
+        free && !state.disabled
+    }
+
+    pub fn car_states(&self) -> Vec<CarState> {
+        (0..self.cars.len())
+            .map(|car| self.study.car_state(car))
+            .collect()
+    }
+
+    /// The hall calls of a direction as a set.
+    pub fn calls(&self, direction: CallDirection) -> u64 {
+        (0..self.stops.len())
+            .map(|stop| u64::from(self.study.called(stop, direction)) << stop)
+            .sum()
+    }
+
+    /// A tick's lines: its words, a line a car, the world's counters and calls.
+    pub fn show(&self, words: &[u32], text: &mut String) {
+        let shown: String = words.iter().map(|word| format!("{word:08x} ")).collect();
+        writeln!(text, "{shown}").unwrap();
+        for state in self.car_states() {
+            show_car(&state, text);
+        }
+        writeln!(
+            text,
+            "{} {} {} {}",
+            number(self.study.total_moves()),
+            bits(self.study.reposition_distance()),
+            number(self.calls(CallDirection::Up)),
+            number(self.calls(CallDirection::Down)),
+        )
+        .unwrap();
+    }
+}
+
+/// 16 digits; any NaN is the positive quiet one.
+fn bits(x: f64) -> String {
+    let bits = if x.is_nan() {
+        0x7ff8_0000_0000_0000
+    } else {
+        x.to_bits()
+    };
+    format!("{bits:016x}")
+}
+
+/// In one digit, 8 or 16.
+fn number(n: impl Into<u64>) -> String {
+    match n.into() {
+        n @ 0..=15 => format!("{n:x}"),
+        n @ ..=0xffff_ffff => format!("{n:08x}"),
+        n => format!("{n:016x}"),
+    }
+}
+
+/// The phase's number in the order of elevator.rs.
+pub fn phase_number(phase: ElevatorPhase) -> usize {
+    match phase {
+        ElevatorPhase::Idle => 0,
+        ElevatorPhase::MovingToStop(_) => 1,
+        ElevatorPhase::Repositioning(_) => 2,
+        ElevatorPhase::DoorOpening => 3,
+        ElevatorPhase::Loading => 4,
+        ElevatorPhase::DoorClosing => 5,
+        ElevatorPhase::Stopped => 6,
+        _ => unreachable!("elevator.rs has seven phases"),
+    }
+}
+
+fn door(state: DoorState) -> String {
+    match state {
+        DoorState::Closed => "0".to_string(),
+        DoorState::Opening {
+            ticks_remaining,
+            open_duration,
+            close_duration,
+        } => numbers(1, &[ticks_remaining, open_duration, close_duration]),
+        DoorState::Open {
+            ticks_remaining,
+            close_duration,
+        } => numbers(2, &[ticks_remaining, close_duration]),
+        DoorState::Closing { ticks_remaining } => numbers(3, &[ticks_remaining]),
+        _ => unreachable!("door.rs has four states"),
+    }
+}
+
+fn numbers(state: u32, fields: &[u32]) -> String {
+    let fields = fields.iter().map(|&n| format!(",{}", number(n)));
+    format!("{state}{}", fields.collect::<String>())
+}
+
+/// A car's line: position, velocity, phase with its stop, door, lamps and the repositioning flag,
+/// target, destinations, commands, moves, cooldown.
+fn show_car(car: &CarState, text: &mut String) {
+    let two = |stop: usize| format!("{stop:02x}");
+    let marks = [
+        car.going_up,
+        car.going_down,
+        car.going_forward,
+        car.repositioning,
+    ]
+    .into_iter()
+    .fold(0, |digit, mark| 2 * digit + u32::from(mark));
+    let destinations: String = car.destinations.iter().map(|&s| two(s)).collect();
+    let commands: String = car
+        .commands
+        .iter()
+        .map(|&command| {
+            let (code, ticks) = code_of(command);
+            format!("{code}{ticks:04x}")
+        })
+        .collect();
+    writeln!(
+        text,
+        "{} {} {}{} {} {marks:x} {} d{destinations} q{commands} {} {}",
+        bits(car.position),
+        bits(car.velocity),
+        phase_number(car.phase),
+        car.phase_stop.map_or(String::new(), two),
+        door(car.door),
+        car.target.map_or("-".to_string(), two),
+        number(car.moves),
+        car.cooldown.map_or("-".to_string(), number),
+    )
+    .unwrap();
+}
