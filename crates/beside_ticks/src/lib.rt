@@ -134,7 +134,7 @@ fn place(i: u8, on_loop: bool, sixteenth: f64) -> f64
 }
 
 // Where car i is sent: to the next stop on a loop; else to the other end.
-fn target(i: u8, on_loop: bool) -> u8
+fn sent_to(i: u8, on_loop: bool) -> u8
     ensures { λ r. ⌜ r ≡ Bench.target i «on_loop» ⌝ }
 {
     if on_loop {
@@ -172,7 +172,7 @@ fn with_sends(world: World, on_loop: bool) -> World
     let mut next = world;
     let mut i: u8 = 0;
     while i < 16 {
-        let sent = send(next, i, target(i, on_loop), false);
+        let sent = send(next, i, sent_to(i, on_loop), false);
         next = sent.world;
         i += 1;
     }

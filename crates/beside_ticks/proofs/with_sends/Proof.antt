@@ -21,7 +21,7 @@ loop-holds c = (search needs, refl)
 
 loop-again : tie.Need-loop-again Inv-loop μ-loop
 unfolding sendsTo
-loop-again c = (search needs, send-more _ _ _ (c .before .before .target .ensures) (c .before .before .before .before .loop .inv .1) (c .before .send .ensures))
+loop-again c = (search needs, send-more _ _ _ (c .before .before .sent-to .ensures) (c .before .before .before .before .loop .inv .1) (c .before .send .ensures))
 
 returns : tie.Need-returns Inv-loop μ-loop
 returns c = let e : c .before .loop .i ≡ 16 = omega (arith, c .before .loop .inv .0, c .loop-test .left) in rw e at (c .before .loop .inv .1)
