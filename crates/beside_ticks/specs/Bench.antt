@@ -1,9 +1,9 @@
 -- What a run of the bench answers: the world that it starts from, so many ticks, and a sum over what they leave.
 use mathlib.Core.Bool.{Bool, true, false, cond}
-use mathlib.Core.List.{List, [], _∷_}
+use mathlib.Core.List.{List}
 use Prim.Native.Nat.{ℕ, zero, suc, _+_, _*_, _%_, min}
 use lib.Dec.{eqb}
-use lib.ListN.{length, replicate}
+use lib.ListN.{length, set, replicate}
 use lib.Ieee.{Float, binary64, ofBits, add, sub, mul}
 use Rattle.motion.specs.Float as Float
 use Rattle.motion.specs.Float.{numberBits}
@@ -28,16 +28,17 @@ unfoldable pub stopsTo : World → ℕ → World
 stopsTo w zero = w
 stopsTo w (suc i) = loadStop (stopsTo w i) i (heightTo i) .world
 
--- the numbers 0 to 63
-abbrev pub everyStop : List ℕ
-everyStop = 0 ∷ 1 ∷ 2 ∷ 3 ∷ 4 ∷ 5 ∷ 6 ∷ 7 ∷ 8 ∷ 9 ∷ 10 ∷ 11 ∷ 12 ∷ 13 ∷ 14 ∷ 15 ∷ 16 ∷ 17 ∷ 18 ∷ 19 ∷ 20 ∷ 21 ∷ 22 ∷ 23 ∷ 24 ∷ 25 ∷ 26 ∷ 27 ∷ 28 ∷ 29 ∷ 30 ∷ 31 ∷ 32 ∷ 33 ∷ 34 ∷ 35 ∷ 36 ∷ 37 ∷ 38 ∷ 39 ∷ 40 ∷ 41 ∷ 42 ∷ 43 ∷ 44 ∷ 45 ∷ 46 ∷ 47 ∷ 48 ∷ 49 ∷ 50 ∷ 51 ∷ 52 ∷ 53 ∷ 54 ∷ 55 ∷ 56 ∷ 57 ∷ 58 ∷ 59 ∷ 60 ∷ 61 ∷ 62 ∷ 63 ∷ []
+-- the numbers below n in their places, zeros behind
+unfoldable pub numbersTo : ℕ → List ℕ
+numbersTo zero = replicate 64 0
+numbersTo (suc n) = set (numbersTo n) n n
 
 -- the line, and on a loop its list of all stops
 unfoldable pub withLine : World → Bool → World
 withLine w onLoop =
     cond
     onLoop
-    (loadLine w 0 (Loop (ofBits binary64 0x4070_0000_0000_0000) (ofBits binary64 0x4000_0000_0000_0000)) true 64 everyStop .world)
+    (loadLine w 0 (Loop (ofBits binary64 0x4070_0000_0000_0000) (ofBits binary64 0x4000_0000_0000_0000)) true 64 (numbersTo 64) .world)
     (loadLine w 0 Linear false 0 (replicate 64 0) .world)
 
 -- where car i stands: 16 m apart on a loop; else below, and every other one above

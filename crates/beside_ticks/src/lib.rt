@@ -34,74 +34,15 @@ fn with_stops(world: World) -> World
 
 // The numbers 0 to 63.
 fn every_stop() -> [u8; 64]
-    ensures { λ r. ⌜ r ≡ Bench.everyStop ⌝ }
+    ensures { λ r. ⌜ r ≡ Bench.numbersTo 64 ⌝ }
 {
-    [
-        0,
-        1,
-        2,
-        3,
-        4,
-        5,
-        6,
-        7,
-        8,
-        9,
-        10,
-        11,
-        12,
-        13,
-        14,
-        15,
-        16,
-        17,
-        18,
-        19,
-        20,
-        21,
-        22,
-        23,
-        24,
-        25,
-        26,
-        27,
-        28,
-        29,
-        30,
-        31,
-        32,
-        33,
-        34,
-        35,
-        36,
-        37,
-        38,
-        39,
-        40,
-        41,
-        42,
-        43,
-        44,
-        45,
-        46,
-        47,
-        48,
-        49,
-        50,
-        51,
-        52,
-        53,
-        54,
-        55,
-        56,
-        57,
-        58,
-        59,
-        60,
-        61,
-        62,
-        63,
-    ]
+    let mut stops = [0u8; 64];
+    let mut i: usize = 0;
+    while i < 64 {
+        stops[i] = i as u8;
+        i += 1;
+    }
+    stops
 }
 
 // The line, and on a loop its list of all stops.
