@@ -46,32 +46,46 @@ noSuchCar w car = leb 16 car || unloaded (w .«car_count») car
 abbrev pub lineRow : LineKind → Bool → ℕ → List ℕ → Line
 lineRow kind listed count serves = record { kind = kind; listed = listed; serves = serves; «serves_count» = count }
 
+abbrev pub lineChecks : World → ℕ → Line → List Check
+lineChecks w number row =
+    check NotNow (w .started)
+    ∷ check NotNext (notNext 8 (w .«line_count») number)
+    ∷ check NotLoaded (lineBroken (w .«stop_count») row)
+    ∷ []
+
 unfoldable pub loadLine : World → ℕ → LineKind → Bool → ℕ → List ℕ → Changed
 loadLine w number kind listed count serves =
     unless
-    (check NotNow (w .started)
-    ∷ check NotNext (notNext 8 (w .«line_count») number)
-    ∷ check NotLoaded (lineBroken (w .«stop_count») (lineRow kind listed count serves))
-    ∷ [])
+    (lineChecks w number (lineRow kind listed count serves))
     w
     (withPlan w (w .stops) (w .«stop_count») (set (w .lines) number (lineRow kind listed count serves)) (number + 1) (w .started))
 
 -- 2 stop
+abbrev pub stopChecks : World → ℕ → List Check
+stopChecks w number =
+    check NotNow (w .started)
+    ∷ check NotNext (notNext 64 (w .«stop_count») number)
+    ∷ []
+
 unfoldable pub loadStop : World → ℕ → Float → Changed
 loadStop w number position =
     unless
-    (check NotNow (w .started) ∷ check NotNext (notNext 64 (w .«stop_count») number) ∷ [])
+    (stopChecks w number)
     w
     (withPlan w (set (w .stops) number position) (number + 1) (w .lines) (w .«line_count») (w .started))
 
 -- 3 car
+abbrev pub carChecks : World → ℕ → ℕ → List Check
+carChecks w number line =
+    check NotNow (w .started)
+    ∷ check NotNext (notNext 16 (w .«car_count») number)
+    ∷ check NotLoaded (unloaded (w .«line_count») line)
+    ∷ []
+
 unfoldable pub loadCar : World → ℕ → ℕ → Motion → ℕ → ℕ → Changed
 loadCar w number line motion transition opening =
     unless
-    (check NotNow (w .started)
-    ∷ check NotNext (notNext 16 (w .«car_count») number)
-    ∷ check NotLoaded (unloaded (w .«line_count») line)
-    ∷ [])
+    (carChecks w number line)
     w
     (withCars w (set (w .cars) number (newCar line motion transition opening)) (number + 1))
 
@@ -80,13 +94,22 @@ abbrev pub countWith : ℕ → ℕ → ℕ
 countWith count number = cond (eqb number count) (number + 1) count
 
 -- 4 rider: "an old number replaces that rider"
+abbrev pub riderChecks : World → ℕ → Rider → List Check
+riderChecks w number rider =
+    check NotNext (leb 128 number || ltb (w .«rider_count») number)
+    ∷ check NotLoaded (riderBroken (w .«stop_count») (w .«car_count») rider)
+    ∷ []
+
 unfoldable pub loadRider : World → ℕ → Rider → Changed
 loadRider w number rider =
     unless
-    (check NotNext (leb 128 number || ltb (w .«rider_count») number) ∷ check NotLoaded (riderBroken (w .«stop_count») (w .«car_count») rider) ∷ [])
+    (riderChecks w number rider)
     w
     (withPeople w (set (w .riders) number rider) (countWith (w .«rider_count») number) (w .«up_calls») (w .«down_calls»))
 
 -- D start
+abbrev pub startChecks : World → List Check
+startChecks w = check NotNow (w .started) ∷ []
+
 unfoldable pub start : World → Changed
-start w = unless (check NotNow (w .started) ∷ []) w (withPlan w (w .stops) (w .«stop_count») (w .lines) (w .«line_count») true)
+start w = unless (startChecks w) w (withPlan w (w .stops) (w .«stop_count») (w .lines) (w .«line_count») true)

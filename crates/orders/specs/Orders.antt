@@ -1,6 +1,6 @@
 -- What the state refuses of an order, and what an order does to the world: kinds 5 to B.
 use mathlib.Core.Bool.{Bool, true, false, not, _||_, cond}
-use mathlib.Core.List.{[], _∷_}
+use mathlib.Core.List.{List, [], _∷_}
 use Prim.Native.Nat.{ℕ, _+_}
 use lib.Dec.{leb}
 use lib.ListN.{set}
@@ -18,7 +18,7 @@ use Rattle.world.specs.declared.StopOption.the-variants.{Stop}
 use Rattle.world.specs.declared.SpeedOption.{SpeedOption}
 use Rattle.world.specs.declared.refusal.Refusal.the-variants.{NotNow, NotLoaded, CannotGo, QueueFull}
 use Rattle.loads.specs.declared.Changed.{Changed}
-use Rattle.world.specs.Refusal.{check}
+use Rattle.world.specs.Refusal.{Check, check}
 use Rattle.loads.specs.Loads.{unless, noSuchCar}
 
 -- whether a car may be sent: Idle or Stopped
@@ -37,16 +37,23 @@ sent c stop reposition =
     withOrders c (cond reposition (Repositioning stop) (MovingToStop stop)) (c .«service_mode») (c .enabled) reposition (Stop stop) (c .«manual_target_velocity»)
     (c .«destination_queue») (c .«destination_count») (c .«door_command_queue») (c .«command_count»)
 
-unfoldable pub send : World → ℕ → ℕ → Bool → Changed
-send w car stop reposition =
+abbrev pub sendChecks : World → ℕ → ℕ → List Check
+sendChecks w car stop =
     let c = carAt (w .cars) car in
-    unless
-    (check NotNow (not (w .started))
+    check NotNow (not (w .started))
     ∷ check NotLoaded (noSuchCar w car || unloaded (w .«stop_count») stop)
     ∷ check CannotGo (not (c .enabled) || not (canGo (c .phase)))
-    ∷ [])
-    w
-    (withCar w car (sent c stop reposition))
+    ∷ []
+
+unfoldable pub send : World → ℕ → ℕ → Bool → Changed
+send w car stop reposition = unless (sendChecks w car stop) w (withCar w car (sent (carAt (w .cars) car) stop reposition))
+
+-- the checks of an order to a car that needs nothing but the car: kinds 6, 7 and B
+abbrev pub orderChecks : World → ℕ → List Check
+orderChecks w car =
+    check NotNow (not (w .started))
+    ∷ check NotLoaded (noSuchCar w car)
+    ∷ []
 
 -- 6 mode
 abbrev pub inMode : Car → ServiceMode → Car
@@ -56,10 +63,7 @@ inMode c mode =
 
 unfoldable pub setMode : World → ℕ → ServiceMode → Changed
 setMode w car mode =
-    unless
-    (check NotNow (not (w .started)) ∷ check NotLoaded (noSuchCar w car) ∷ [])
-    w
-    (withCar w car (inMode (carAt (w .cars) car) mode))
+    unless (orderChecks w car) w (withCar w car (inMode (carAt (w .cars) car) mode))
 
 -- 7 manual speed
 abbrev pub atSpeed : Car → SpeedOption → Car
@@ -69,10 +73,7 @@ atSpeed c speed =
 
 unfoldable pub setManualSpeed : World → ℕ → SpeedOption → Changed
 setManualSpeed w car speed =
-    unless
-    (check NotNow (not (w .started)) ∷ check NotLoaded (noSuchCar w car) ∷ [])
-    w
-    (withCar w car (atSpeed (carAt (w .cars) car) speed))
+    unless (orderChecks w car) w (withCar w car (atSpeed (carAt (w .cars) car) speed))
 
 -- 8 door command, appended to the car's door queue
 abbrev pub commanded : Car → DoorCommand → Car
@@ -80,19 +81,27 @@ commanded c command =
     withOrders c (c .phase) (c .«service_mode») (c .enabled) (c .repositioning) (c .«target_stop») (c .«manual_target_velocity»)
     (c .«destination_queue») (c .«destination_count») (set (c .«door_command_queue») (c .«command_count») (record { command = command })) (c .«command_count» + 1)
 
+abbrev pub commandChecks : World → ℕ → List Check
+commandChecks w car =
+    check NotNow (not (w .started))
+    ∷ check NotLoaded (noSuchCar w car)
+    ∷ check QueueFull (leb 8 (carAt (w .cars) car .«command_count»))
+    ∷ []
+
 unfoldable pub queueCommand : World → ℕ → DoorCommand → Changed
-queueCommand w car command =
-    let c = carAt (w .cars) car in
-    unless
-    (check NotNow (not (w .started)) ∷ check NotLoaded (noSuchCar w car) ∷ check QueueFull (leb 8 (c .«command_count»)) ∷ [])
-    w
-    (withCar w car (commanded c command))
+queueCommand w car command = unless (commandChecks w car) w (withCar w car (commanded (carAt (w .cars) car) command))
 
 -- 9 hall call
+abbrev pub callChecks : World → ℕ → List Check
+callChecks w stop =
+    check NotNow (not (w .started))
+    ∷ check NotLoaded (unloaded (w .«stop_count») stop)
+    ∷ []
+
 unfoldable pub pressHallCall : World → ℕ → Bool → Changed
 pressHallCall w stop down =
     unless
-    (check NotNow (not (w .started)) ∷ check NotLoaded (unloaded (w .«stop_count») stop) ∷ [])
+    (callChecks w stop)
     w
     (withPeople w (w .riders) (w .«rider_count») (cond down (w .«up_calls») (pressed (w .«up_calls») stop)) (cond down (pressed (w .«down_calls») stop) (w .«down_calls»)))
 
@@ -102,16 +111,15 @@ destined c stop =
     withOrders c (c .phase) (c .«service_mode») (c .enabled) (c .repositioning) (c .«target_stop») (c .«manual_target_velocity»)
     (set (c .«destination_queue») (c .«destination_count») stop) (c .«destination_count» + 1) (c .«door_command_queue») (c .«command_count»)
 
-unfoldable pub pushDestination : World → ℕ → ℕ → Changed
-pushDestination w car stop =
-    let c = carAt (w .cars) car in
-    unless
-    (check NotNow (not (w .started))
+abbrev pub destinationChecks : World → ℕ → ℕ → List Check
+destinationChecks w car stop =
+    check NotNow (not (w .started))
     ∷ check NotLoaded (noSuchCar w car || unloaded (w .«stop_count») stop)
-    ∷ check QueueFull (leb 8 (c .«destination_count»))
-    ∷ [])
-    w
-    (withCar w car (destined c stop))
+    ∷ check QueueFull (leb 8 (carAt (w .cars) car .«destination_count»))
+    ∷ []
+
+unfoldable pub pushDestination : World → ℕ → ℕ → Changed
+pushDestination w car stop = unless (destinationChecks w car stop) w (withCar w car (destined (carAt (w .cars) car) stop))
 
 -- B enable, disable
 abbrev pub marked : Car → Bool → Car
@@ -121,7 +129,4 @@ marked c enabled =
 
 unfoldable pub setEnabled : World → ℕ → Bool → Changed
 setEnabled w car enabled =
-    unless
-    (check NotNow (not (w .started)) ∷ check NotLoaded (noSuchCar w car) ∷ [])
-    w
-    (withCar w car (marked (carAt (w .cars) car) enabled))
+    unless (orderChecks w car) w (withCar w car (marked (carAt (w .cars) car) enabled))

@@ -1,0 +1,88 @@
+-- The first condition, and "A refusal is given on its condition and on no other", as claims about the record call's definition.
+use mathlib.Core.Path.{_≡_}
+use mathlib.Core.Logic.{_⊎_}
+use mathlib.Core.Bool.{Bool, true, false, cond}
+use mathlib.Core.List.{List, [], _∷_, _++_}
+use Prim.Native.Nat.{ℕ, _<_, _≤_}
+use lib.Dec.{eqb}
+use lib.ListN.{length, getD, drop}
+use Rattle.world.specs.Sound.{broken}
+use Rattle.world.specs.Refusal.{Check, check}
+use Rattle.world.specs.declared.World.{World}
+use Rattle.world.specs.declared.refusal.Refusal.{Refusal}
+use Rattle.world.specs.declared.refusal.Refusal.the-variants.{BrokenWorld, CutShort, UnknownKind}
+use Rattle.tape.specs.Tape.{Kind, kinds, kindOf, headOf}
+use Rattle.tape.specs.declared.Decoded.{Decoded}
+use Rattle.tape.specs.declared.Read.{Read}
+use Rattle.tape.specs.declared.Read.the-variants as Read
+use Rattle.tape.specs.declared.Record.{Record}
+use Rattle.tape.specs.declared.Record.the-variants.{Line, Stop, Car, Rider, Send, Mode, ManualSpeed, DoorCommand, HallCall, Destination, Enable, Tick, Start}
+use Rattle.loads.specs.Loads.{lineRow, lineChecks, stopChecks, carChecks, riderChecks, startChecks}
+use Rattle.orders.specs.Orders.{sendChecks, orderChecks, commandChecks, callChecks, destinationChecks}
+use Rattle.record.specs.declared.Answer.{Answer}
+use Rattle.record.specs.declared.Answer.the-variants.{Accepted, Refused}
+use Rattle.record.specs.Record.{isAccepted, usedOf, writtenOf, tickChecks, recordOf}
+
+-- ---- the first condition
+
+-- what any call with any world, words and log gives
+pub record Kept (w : World) (words lent : List ℕ) : Type 0 where
+  -- "A refused record leaves the world and every word of the lent log as it found them."
+  pub world : isAccepted (recordOf w words lent .answer) ≡ false → recordOf w words lent .world ≡ w
+  pub log : isAccepted (recordOf w words lent .answer) ≡ false → recordOf w words lent .log ≡ lent
+  -- the log keeps its length, and "later words stay"
+  pub size : length (recordOf w words lent .log) ≡ length lent
+  pub later : drop (writtenOf (recordOf w words lent .answer)) (recordOf w words lent .log) ≡ drop (writtenOf (recordOf w words lent .answer)) lent
+  -- the words that the answer counts are there
+  pub used : usedOf (recordOf w words lent .answer) ≤ length words
+  pub written : writtenOf (recordOf w words lent .answer) ≤ length lent
+  -- an accepted record takes words
+  pub some : isAccepted (recordOf w words lent .answer) ≡ true → 0 < usedOf (recordOf w words lent .answer)
+  -- "0 except on ticks"
+  pub untouched : eqb (kindOf (getD words 0 0)) 12 ≡ false → recordOf w words lent .log ≡ lent
+
+unfoldable pub FirstCondition : Type 0
+FirstCondition = (w : World) (words log : List ℕ) → Kept w words log
+
+-- ---- "A refusal is given on its condition and on no other"
+
+-- the conditions that the state brings, in the order of their numbers
+abbrev pub stateChecks : World → List ℕ → List ℕ → Record → List Check
+stateChecks w log serves (Line number kind listed count) = lineChecks w number (lineRow kind listed count serves)
+stateChecks w log serves (Stop number position) = stopChecks w number
+stateChecks w log serves (Car number line motion transition opening) = carChecks w number line
+stateChecks w log serves (Rider number rider) = riderChecks w number rider
+stateChecks w log serves (Send car stop reposition) = sendChecks w car stop
+stateChecks w log serves (Mode car mode) = orderChecks w car
+stateChecks w log serves (ManualSpeed car speed) = orderChecks w car
+stateChecks w log serves (DoorCommand car command) = commandChecks w car
+stateChecks w log serves (HallCall stop down) = callChecks w stop
+stateChecks w log serves (Destination car stop) = destinationChecks w car stop
+stateChecks w log serves (Enable car enabled) = orderChecks w car
+stateChecks w log serves (Tick dt) = tickChecks w log
+stateChecks w log serves Start = startChecks w
+
+abbrev pub behind : World → List ℕ → List ℕ → Read → List Check
+behind w log serves (Read.Refused r) = []
+behind w log serves (Read.Accepted read used) = stateChecks w log serves read
+
+-- a kind's conditions: those that the input brings, then the state's
+abbrev pub checksIn : World → List ℕ → ℕ → List Kind → List Check
+checksIn w log k [] = check UnknownKind true ∷ []
+checksIn w log k (t ∷ ts) =
+    cond (eqb k (t .number)) (t .deed .checks ++ behind w log (t .deed .done .serves) (t .deed .done .read)) (checksIn w log k ts)
+
+-- all conditions of a call, "in the order of the numbers, 2 before a short body"
+unfoldable pub conditions : World → List ℕ → List ℕ → List Check
+conditions w words log =
+    check BrokenWorld (broken w)
+    ∷ check CutShort (eqb (length words) 0)
+    ∷ checksIn w log (kindOf (getD words 0 0)) (kinds (headOf (getD words 0 0)) words)
+
+-- the answer is the refusal of the first condition that holds; where none holds the record is accepted
+unfoldable pub Answers : List Check → Answer → Type 0
+Answers [] a = isAccepted a ≡ true
+Answers (c ∷ cs) a = ((c .holds ≡ true) × (a ≡ Refused (c .refusal))) ⊎ ((c .holds ≡ false) × Answers cs a)
+
+unfoldable pub OnItsCondition : Type 0
+OnItsCondition = (w : World) (words log : List ℕ) → Answers (conditions w words log) (recordOf w words log .answer)

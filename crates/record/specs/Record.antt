@@ -1,0 +1,119 @@
+-- The record call: one record of a tape, from the world, the words and the log to the answer, the next world and the log.
+use mathlib.Core.Bool.{Bool, true, false, not, cond}
+use mathlib.Core.List.{List, [], _∷_}
+use Prim.Native.Nat.{ℕ, _^_}
+use lib.Dec.{leb, ltb}
+use lib.ListN.{length}
+use lib.Seq.{sets}
+use lib.Ieee.{Float}
+use Rattle.world.specs.Sound.{broken}
+use Rattle.world.specs.Refusal.{Check, check, refusalNumber}
+use Rattle.world.specs.declared.World.{World}
+use Rattle.world.specs.declared.refusal.Refusal.{Refusal}
+use Rattle.world.specs.declared.refusal.Refusal.the-variants.{BrokenWorld, NotNow, LastTick, LogShort}
+use Rattle.tape.specs.Tape.{decoded}
+use Rattle.tape.specs.declared.Read.{Read}
+use Rattle.tape.specs.declared.Read.the-variants as Read
+use Rattle.tape.specs.declared.Record.{Record}
+use Rattle.tape.specs.declared.Record.the-variants.{Line, Stop, Car, Rider, Send, Mode, ManualSpeed, DoorCommand, HallCall, Destination, Enable, Tick, Start}
+use Rattle.loads.specs.Loads.{loadLine, loadStop, loadCar, loadRider, start}
+use Rattle.loads.specs.declared.Changed.{Changed}
+use Rattle.loads.specs.declared.Taken.{Taken}
+use Rattle.loads.specs.declared.Taken.the-variants as Taken
+use Rattle.orders.specs.Orders.{send, setMode, setManualSpeed, queueCommand, pressHallCall, pushDestination, setEnabled}
+use Rattle.tick.specs.Tick.{tickWorld, tickWords}
+use Rattle.tick.specs.Room.{roomOf}
+use Rattle.record.specs.declared.Answer.{Answer}
+use Rattle.record.specs.declared.Answer.the-variants.{Accepted, Refused}
+
+-- ---- the answer: "an accepted record or one numbered refusal"
+
+abbrev pub isAccepted : Answer → Bool
+isAccepted (Accepted used written) = true
+isAccepted (Refused r) = false
+
+-- "the answer says how many were used"; a refusal "answers the number and 0 words"
+abbrev pub usedOf : Answer → ℕ
+usedOf (Accepted used written) = used
+usedOf (Refused r) = 0
+
+-- "and how many log words were written"
+abbrev pub writtenOf : Answer → ℕ
+writtenOf (Accepted used written) = written
+writtenOf (Refused r) = 0
+
+-- the paper's number of a refusal; an accepted record has none, and this gives 13
+abbrev pub numberOf : Answer → ℕ
+numberOf (Accepted used written) = 13
+numberOf (Refused r) = refusalNumber r
+
+-- ---- what a call gives
+
+pub record Outcome : Type 0 where
+  pub answer : Answer
+  pub world : World
+  pub log : List ℕ
+
+abbrev pub accepted : ℕ → ℕ → World → List ℕ → Outcome
+accepted used written w log = record { answer = Accepted used written; world = w; log = log }
+
+-- "world and log unchanged"
+abbrev pub refused : World → List ℕ → Refusal → Outcome
+refused w log r = record { answer = Refused r; world = w; log = log }
+
+-- the first refusal whose condition holds, else the outcome
+abbrev pub unless : List Check → World → List ℕ → Outcome → Outcome
+unless [] w log o = o
+unless (c ∷ cs) w log o = cond (c .holds) (refused w log (c .refusal)) (unless cs w log o)
+
+-- ---- every record but the tick: no word is written, the log is as it was
+
+abbrev pub changedBy : Taken → World → List ℕ → ℕ → Outcome
+changedBy Taken.Accepted w log used = accepted used 0 w log
+changedBy (Taken.Refused r) w log used = refused w log r
+
+abbrev pub changed : List ℕ → ℕ → Changed → Outcome
+changed log used c = changedBy (c .taken) (c .world) log used
+
+-- ---- C tick: "A tick writes its words from the log's start; later words stay."
+
+-- 6: before start. 11: "a tick when tick 268,435,455 has been made (the first is 0)". 12: "the lent log is shorter than cars × (stops + 14) + 1"
+abbrev pub tickChecks : World → List ℕ → List Check
+tickChecks w log =
+    check NotNow (not (w .started))
+    ∷ check LastTick (leb (2 ^ 28) (w .ticks))
+    ∷ check LogShort (ltb (length log) (roomOf w))
+    ∷ []
+
+abbrev pub ticked : World → List ℕ → ℕ → Float → Outcome
+ticked w log used dt = accepted used (length (tickWords w dt)) (tickWorld w dt) (sets log 0 (tickWords w dt))
+
+unfoldable pub tickOnce : World → List ℕ → ℕ → Float → Outcome
+tickOnce w log used dt = unless (tickChecks w log) w log (ticked w log used dt)
+
+-- ---- the record call
+
+-- a record that was read, and the words that it takes
+abbrev pub taken : World → List ℕ → ℕ → List ℕ → Record → Outcome
+taken w log used serves (Line number kind listed count) = changed log used (loadLine w number kind listed count serves)
+taken w log used serves (Stop number position) = changed log used (loadStop w number position)
+taken w log used serves (Car number line motion transition opening) = changed log used (loadCar w number line motion transition opening)
+taken w log used serves (Rider number rider) = changed log used (loadRider w number rider)
+taken w log used serves (Send car stop reposition) = changed log used (send w car stop reposition)
+taken w log used serves (Mode car mode) = changed log used (setMode w car mode)
+taken w log used serves (ManualSpeed car speed) = changed log used (setManualSpeed w car speed)
+taken w log used serves (DoorCommand car command) = changed log used (queueCommand w car command)
+taken w log used serves (HallCall stop down) = changed log used (pressHallCall w stop down)
+taken w log used serves (Destination car stop) = changed log used (pushDestination w car stop)
+taken w log used serves (Enable car enabled) = changed log used (setEnabled w car enabled)
+taken w log used serves (Tick dt) = tickOnce w log used dt
+taken w log used serves Start = changed log used (start w)
+
+-- refusals 1 to 4, or the record
+abbrev pub readBy : World → List ℕ → List ℕ → Read → Outcome
+readBy w log serves (Read.Refused r) = refused w log r
+readBy w log serves (Read.Accepted read used) = taken w log used serves read
+
+-- "Checked in the order of the numbers": 0, then what the tape says, then what the state says
+unfoldable pub recordOf : World → List ℕ → List ℕ → Outcome
+recordOf w words log = unless (check BrokenWorld (broken w) ∷ []) w log (readBy w log (decoded words .serves) (decoded words .read))
