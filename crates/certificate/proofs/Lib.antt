@@ -1,2 +1,4 @@
 pub mod Watch
 pub mod Turns
+pub mod Holding
+pub mod Ticking
