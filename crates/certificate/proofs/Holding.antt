@@ -1,7 +1,7 @@
 -- What the cars and the joined log hold on the way, and that a run of the cars keeps it. Assumes nothing.
 use mathlib.Core.Path.{_≡_, refl, _∙_}
 use mathlib.Core.Bool.{Bool, true, false}
-use mathlib.Core.List.{List, [], _∷_, _++_, append-nil, append-assoc}
+use mathlib.Core.List.{List, _++_, append-nil, append-assoc}
 use Prim.Native.Nat.{ℕ, zero, suc, _+_, _<_, _≤_}
 use native.Mathlib.Omega.{arith}
 use lib.Dec.{eqb}
@@ -13,7 +13,7 @@ use Rattle.world.specs.declared.World.{World}
 use Rattle.world.specs.declared.Car.{Car}
 use Rattle.steps.specs.Steps.{Step, Run, ran, runTo}
 use Rattle.tick.specs.Counters.{movesIn, sumTo}
-use Rattle.certificate.proofs.Watch.{openAfter, Calm, open-append, calm-append, Told, told-none}
+use Rattle.certificate.proofs.Watch.{openAfter, Calm, open-append, calm-append, Told}
 use Rattle.certificate.proofs.Turns.{Fit, Good}
 
 -- the first n cars, and the joined log

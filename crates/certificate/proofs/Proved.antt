@@ -1,8 +1,8 @@
 -- The third condition, proved. Assumes nothing.
-use mathlib.Core.Path.{_≡_, refl, sym, _∙_}
+use mathlib.Core.Path.{_≡_, refl, _∙_}
 use mathlib.Core.Logic.{_⊎_, inl, inr}
-use mathlib.Core.Bool.{Bool, true, false, _&&_, _||_, cond}
-use mathlib.Core.List.{List, [], _∷_, _++_, append-nil, append-assoc, List·Memᴰ}
+use mathlib.Core.Bool.{Bool, true, false, _||_, cond}
+use mathlib.Core.List.{List, [], _∷_, _++_, append-nil, append-assoc}
 use Prim.Native.Nat.{ℕ, suc, _+_}
 use native.Mathlib.Omega.{arith}
 use lib.Dec.{eqb}
@@ -11,7 +11,7 @@ use Rattle.world.specs.World.{emptyWorld}
 use Rattle.world.specs.declared.World.{World}
 use Rattle.log.specs.ReadBack.{kindOf, carOf}
 use Rattle.tick.specs.Counters.{isMove, movesIn, sumTo}
-use Rattle.record.specs.Calls.{Call, outcome, next, worldAfter}
+use Rattle.record.specs.Calls.{Call, next, worldAfter}
 use Rattle.certificate.specs.Certificate.{NoManual, DoorsHold, told, joined, Is, LogHolds, wordsOf, ThirdCondition}
 use Rattle.certificate.proofs.Watch.{openAfter, Calm, is, isMoveOf, calm-between}
 use Rattle.certificate.proofs.Records.{Keeps, Kept, call-kept}
@@ -23,10 +23,10 @@ record After (w : World) (calls : List Call) (j : List ℕ) : Type 0 where
   doors : DoorsHold w calls
 
 calls-kept : (calls : List Call) (w : World) (j : List ℕ) → Keeps j w → NoManual w calls → After w calls j
-unfolding joined worldAfter next DoorsHold NoManual
+unfolding joined worldAfter DoorsHold NoManual
 calls-kept [] w j h q = record { keeps = rw (append-nil j) h; doors = tt }
 calls-kept (c ∷ cs) w j h q =
-    let k : Kept w c j (outcome w c) = call-kept w c j h (q .0) in
+    let k : Kept w c j = call-kept w c j h (q .0) in
     let a : After (next w c) cs (j ++ told w c) = calls-kept cs (next w c) (j ++ told w c) (k .keeps) (q .1) in
     record { keeps = rw (← append-assoc j (told w c) (joined (next w c) cs)) (a .keeps); doors = (λ t i l. k .stands t i, a .doors) }
 
@@ -57,8 +57,9 @@ never k n x h = go (eqb (kindOf x) k) (eqb (carOf x) n) refl refl
 
 log-holds : (log : List ℕ) → ((n : ℕ) → Calm n false log) → LogHolds log
 unfolding LogHolds
-log-holds log h n a o b m c e opened moves none =
-    calm-between n a o b m c (rw e at (h n)) (is-of 6 n o opened) (move-of n m moves) (λ x d. never 7 n x (none x d))
+log-holds log h n x =
+    calm-between n (x .before) (x .opened) (x .middle) (x .move) (x .rest) (rw (x .split) at (h n)) (is-of 6 n (x .opened) (x .opens))
+    (move-of n (x .move) (x .moves)) (λ word d. never 7 n word (x .unclosed word d))
 
 one-kind : (k : ℕ) (n : ℕ) → cond (isMove k) (suc n) n ≡ cond (eqb k 1) 1 0 + cond (eqb k 2) 1 0 + cond (eqb k 3) 1 0 + n
 one-kind k n = go (eqb k 1) (eqb k 2) (eqb k 3) refl refl refl

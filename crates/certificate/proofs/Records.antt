@@ -1,13 +1,12 @@
 -- A record call keeps what is held. Assumes nothing.
-use mathlib.Core.Path.{_≡_, refl, sym, _∙_}
-use mathlib.Core.Bool.{Bool, true, false, not, _&&_, _||_, cond}
+use mathlib.Core.Path.{_≡_, refl, sym, ap, subst, _∙_}
+use mathlib.Core.Bool.{Bool, true, false, not, _&&_, cond}
 use mathlib.Core.List.{List, [], _∷_, _++_, append-nil}
 use Prim.Native.Nat.{ℕ, zero, suc, _+_, _<_, _≤_}
-use native.Mathlib.Nat.{add-zero}
 use native.Mathlib.Numerals.{add-one}
 use native.Mathlib.Omega.{arith}
-use lib.Dec.{eqb, leb, ltb}
-use lib.ListN.{length, getD, set, take, drop, length-set}
+use lib.Dec.{eqb, leb}
+use lib.ListN.{length, set, take, drop, length-set}
 use lib.Seq.{getD-set-same, getD-set-other, sets, sets-eq, take-at}
 use lib.Ieee.{Float}
 use borrow.Author.Tests.{eqb-true, ltb-false, leb-false, not-false}
@@ -16,20 +15,18 @@ use Rattle.door.specs.Door.{isClosed}
 use Rattle.door.specs.declared.DoorState.{DoorState}
 use Rattle.door.specs.declared.DoorState.the-variants.{Closed}
 use Rattle.world.specs.World.{carAt, noCar, newCar}
-use Rattle.world.specs.With.{withCar, withCars, withOrders}
+use Rattle.world.specs.With.{withCar, withCars}
 use Rattle.world.specs.Sound.{broken, unloaded}
 use Rattle.world.specs.Refusal.{Check, check}
 use Rattle.world.specs.declared.World.{World}
 use Rattle.world.specs.declared.Car.{Car}
 use Rattle.world.specs.declared.Motion.{Motion}
 use Rattle.world.specs.declared.ElevatorPhase.{ElevatorPhase}
-use Rattle.world.specs.declared.ElevatorPhase.the-variants.{Idle, MovingToStop, Repositioning, DoorOpening, Loading, DoorClosing, Stopped}
-use Rattle.world.specs.declared.ServiceMode.{ServiceMode}
+use Rattle.world.specs.declared.ElevatorPhase.the-variants.{MovingToStop, Repositioning}
 use Rattle.world.specs.declared.refusal.Refusal.{Refusal}
 use Rattle.world.specs.declared.refusal.Refusal.the-variants.{BrokenWorld}
 use Rattle.world.proofs.Unbroken.{or-left, or-right}
-use Rattle.steps.specs.Steps.{isManual}
-use Rattle.tape.specs.Tape.{kindOf, vOf, decoded}
+use Rattle.tape.specs.Tape.{kindOf, decoded}
 use Rattle.tape.specs.declared.Read.{Read}
 use Rattle.tape.specs.declared.Read.the-variants as Read
 use Rattle.tape.specs.declared.Record.{Record}
@@ -39,14 +36,14 @@ use Rattle.loads.specs.Loads.{loadLine, loadStop, loadCar, loadRider, start}
 use Rattle.loads.specs.declared.Changed.{Changed}
 use Rattle.orders.specs.Orders as Orders
 use Rattle.orders.specs.Orders.{send, setMode, setManualSpeed, queueCommand, pressHallCall, pushDestination, setEnabled}
-use Rattle.tick.specs.Tick.{tickWorld, tickWords}
+use Rattle.tick.specs.Tick.{tickWords}
 use Rattle.tick.specs.Room.{roomOf, WordsFit}
 use Rattle.tick.specs.Counters.{sumTo}
 use Rattle.tick.proofs.Passed.{both, cases}
 use Rattle.tick.proofs.Proved.{words-fit}
-use Rattle.record.specs.Record.{Outcome, isAccepted, writtenOf, accepted, refused, unless, changed, tickChecks, ticked, tickOnce, taken, readBy, recordOf}
-use Rattle.record.specs.Calls.{Call, outcome, headOf}
-use Rattle.certificate.specs.Certificate.{putsManual, positionOf, told}
+use Rattle.record.specs.Record.{Outcome, isAccepted, accepted, refused, unless, changed, tickChecks, ticked, tickOnce, taken, readBy, recordOf}
+use Rattle.record.specs.Calls.{Call, outcome, next, headOf}
+use Rattle.certificate.specs.Certificate.{isTick, putsManual, positionOf, told}
 use Rattle.certificate.proofs.Watch.{openAfter, told-none}
 use Rattle.certificate.proofs.Turns.{Sound, idle, stopped, moving, repositioning, opening, loading, closing, Fit}
 use Rattle.certificate.proofs.Holding.{Held, Summed, same?, held-step}
@@ -143,46 +140,64 @@ module _ (w : World) (j : List ℕ) (h : Keeps j w) (i : ℕ) where
 
 -- ---- one call
 
--- what the call's outcome leaves, its words joined
-pub record Kept (w : World) (c : Call) (j : List ℕ) (o : Outcome) : Type 0 where
-  pub keeps : Keeps (j ++ cond (isAccepted (o .answer) && eqb (kindOf (headOf c)) 12) (take (writtenOf (o .answer)) (o .log)) []) (o .world)
-  pub stands : isAccepted (o .answer) && eqb (kindOf (headOf c)) 12 ≡ true → (i : ℕ) → isClosed (carAt (w .cars) i .door) ≡ false
-      → positionOf (o .world) i ≡ positionOf w i
+-- the cars of w whose door is not closed stand in the world v
+abbrev Stands : World → World → Type 0
+Stands w v = (i : ℕ) → isClosed (carAt (w .cars) i .door) ≡ false → positionOf v i ≡ positionOf w i
 
-no-tick : (a b : Bool) → b ≡ false → a && b ≡ false
-no-tick true b e = e
-no-tick false b e = refl
+-- what the call leaves, its words joined
+pub record Kept (w : World) (c : Call) (j : List ℕ) : Type 0 where
+  pub keeps : Keeps (j ++ told w c) (next w c)
+  pub stands : isTick w c ≡ true → Stands w (next w c)
+
+-- where its outcome is o
+abbrev Gives : World → Call → List ℕ → Outcome → Type 0
+Gives w c j o = outcome w c ≡ o → Kept w c j
+
+-- its words and world in place of the outcome's
+kept : (w : World) (c : Call) (j ws : List ℕ) (o : Outcome) → told w c ≡ ws → Keeps (j ++ ws) (o .world) → (isTick w c ≡ true → Stands w (o .world)) → Gives w c j o
+unfolding next
+kept w c j ws o t k s e = record {
+  keeps = subst (λ (v : World). Keeps (j ++ told w c) v) (sym world) (subst (λ (l : List ℕ). Keeps (j ++ l) (o .world)) (sym t) k);
+  stands = λ it. subst (Stands w) (sym world) (s it);
+}
+  where
+    world : next w c ≡ o .world
+    world = ap (λ (x : Outcome). x .world) e
 
 -- a tick: the words that it wrote are those that the log begins with
 wrote : (ws log : List ℕ) → length ws ≤ length log → take (length ws) (sets log 0 ws) ≡ ws
 wrote ws log h = rw (sets-eq ws log 0 (omega arith)) (take-at ws (drop (0 + length ws) log) (length ws) refl)
 
 module _ (w : World) (c : Call) (j : List ℕ) (h : Keeps j w) (used : ℕ) where
-  quiet : (o : Outcome) → isAccepted (o .answer) && eqb (kindOf (headOf c)) 12 ≡ false → Keeps j (o .world) → Kept w c j o
-  quiet o e k = record { keeps = rw (e, append-nil j) k; stands = λ q. no (sym e ∙ q) }
+  -- no tick, and the world keeps what is held
+  quiet : (o : Outcome) → isAccepted (o .answer) && eqb (kindOf (headOf c)) 12 ≡ false → Keeps j (o .world) → Gives w c j o
+  quiet o t k e =
+      let it : isTick w c ≡ false = rw e t in
+      kept w c j [] o (rw it refl) (rw (append-nil j) k) (λ (q : isTick w c ≡ true). no (sym it ∙ q)) e
 
-  refuses : (r : Refusal) → Kept w c j (refused w (c .log) r)
+  refuses : (r : Refusal) → Gives w c j (refused w (c .log) r)
   refuses r = quiet (refused w (c .log) r) refl h
 
   -- a record that is no tick
-  plain : (cs : List Check) (v : World) → eqb (kindOf (headOf c)) 12 ≡ false → (Passed cs → Keeps j v) → Kept w c j (changed (c .log) used (Loads.unless cs w v))
-  plain cs v e k = changed-cases (Kept w c j) cs w v (c .log) used refuses (λ q. quiet (accepted used 0 v (c .log)) e (k q))
+  plain : (cs : List Check) (v : World) → eqb (kindOf (headOf c)) 12 ≡ false → (Passed cs → Keeps j v) → Gives w c j (changed (c .log) used (Loads.unless cs w v))
+  plain cs v t k = changed-cases (Gives w c j) cs w v (c .log) used refuses (λ q. quiet (accepted used 0 v (c .log)) t (k q))
 
-  tick-kept : (dt : Float) → Unbroken w → eqb (kindOf (headOf c)) 12 ≡ true → Kept w c j (tickOnce w (c .log) used dt)
-  unfolding tickOnce WordsFit
-  tick-kept dt u e =
-      unless-cases (Kept w c j) (tickChecks w (c .log)) w (c .log) (ticked w (c .log) used dt) refuses
-      (λ q. record {
-        keeps = rw (e, wrote (tickWords w dt) (c .log) (omega (arith, words-fit w dt, ltb-false (length (c .log)) (roomOf w) (q .1 .1 .0))))
-            (t .held, tick-sums w dt j (u .few) (t .count) (u .low) (h .1));
-        stands = λ _. t .stands;
-      })
-    where
-      t : Ticks w dt j
-      t = tick-ticks w dt j (h .0)
+  module _ (dt : Float) where
+    ticks : Unbroken w → eqb (kindOf (headOf c)) 12 ≡ true → length (tickWords w dt) ≤ length (c .log) → Gives w c j (ticked w (c .log) used dt)
+    ticks u t room e =
+        let it : isTick w c ≡ true = rw e t in
+        let words : told w c ≡ tickWords w dt = rw (it, e) (wrote (tickWords w dt) (c .log) room) in
+        let k : Ticks w dt j = tick-ticks w dt j (h .0) in
+        kept w c j (tickWords w dt) (ticked w (c .log) used dt) words (k .held, tick-sums w dt j (u .few) (k .count) (u .low) (h .1)) (λ _. k .stands) e
+
+    tick-kept : Unbroken w → eqb (kindOf (headOf c)) 12 ≡ true → Gives w c j (tickOnce w (c .log) used dt)
+    unfolding tickOnce WordsFit
+    tick-kept u t =
+        unless-cases (Gives w c j) (tickChecks w (c .log)) w (c .log) (ticked w (c .log) used dt) refuses
+        (λ q. ticks u t (omega (arith, words-fit w dt, ltb-false (length (c .log)) (roomOf w) (q .1 .1 .0))))
 
   car-kept : (number line : ℕ) (motion : Motion) (transition opens : ℕ) → eqb (kindOf (headOf c)) 12 ≡ false
-      → Kept w c j (changed (c .log) used (loadCar w number line motion transition opens))
+      → Gives w c j (changed (c .log) used (loadCar w number line motion transition opens))
   unfolding loadCar
   car-kept number line motion transition opens e =
       plain (Loads.carChecks w number line) (withCars w (set (w .cars) number (newCar line motion transition opens)) (number + 1)) e
@@ -195,7 +210,7 @@ module _ (w : World) (c : Call) (j : List ℕ) (h : Keeps j w) (used : ℕ) wher
         sum-new (newCar line motion transition opens) (h .1) (omega (arith, q, h .0 .full)) refl,
       )
 
-  send-kept : (car stop : ℕ) (reposition : Bool) → eqb (kindOf (headOf c)) 12 ≡ false → Kept w c j (changed (c .log) used (send w car stop reposition))
+  send-kept : (car stop : ℕ) (reposition : Bool) → eqb (kindOf (headOf c)) 12 ≡ false → Gives w c j (changed (c .log) used (send w car stop reposition))
   unfolding send
   send-kept car stop reposition e =
       plain (Orders.sendChecks w car stop) (withCar w car (Orders.sent mine stop reposition)) e
@@ -214,56 +229,55 @@ module _ (w : World) (c : Call) (j : List ℕ) (h : Keeps j w) (used : ℕ) wher
   -- an order that leaves phase and door
   order : (cs : List Check) (car : ℕ) (d : Car) → eqb (kindOf (headOf c)) 12 ≡ false → (Passed cs → Loads.noSuchCar w car ≡ false)
       → (Fit (carAt (w .cars) car) (openAfter car false j) → Fit d (openAfter car false j)) → d .«move_count» ≡ carAt (w .cars) car .«move_count»
-      → Kept w c j (changed (c .log) used (Loads.unless cs w (withCar w car d)))
+      → Gives w c j (changed (c .log) used (Loads.unless cs w (withCar w car d)))
   order cs car d e known f m =
       plain cs (withCar w car d) e
       (λ q. let l : car < w .«car_count» = loaded w j h car (known q) in ordered w j h car d l (f (fit w j h car l)) m)
 
--- no car is put into Manual mode
-abbrev Untouched : Call → Outcome → Type 0
-Untouched c o = (isAccepted (o .answer) && eqb (kindOf (headOf c)) 6) && eqb (vOf (headOf c)) 3 ≡ false
-
 -- a record that was read, where it puts no car into Manual mode
-module _ (w : World) (c : Call) (j : List ℕ) (h : Keeps j w) (u : Unbroken w) (used : ℕ) (serves : List ℕ) where
-  taken-kept : (r : Record) → Says (headOf c) r → Untouched c (taken w (c .log) used serves r)
-      → Kept w c j (taken w (c .log) used serves r)
+module _ (w : World) (c : Call) (j : List ℕ) (h : Keeps j w) (p : putsManual w c ≡ false) (u : Unbroken w) (used : ℕ) (serves : List ℕ) where
+  taken-kept : (r : Record) → Says (headOf c) r → Gives w c j (taken w (c .log) used serves r)
   unfolding loadLine loadStop loadRider start setMode setManualSpeed queueCommand pressHallCall pushDestination setEnabled
-  taken-kept (Record.Line number kind listed count) s p =
+  taken-kept (Record.Line number kind listed count) s =
       plain w c j h used (Loads.lineChecks w number (Loads.lineRow kind listed count serves)) _ s (λ q. h)
-  taken-kept (Record.Stop number position) s p = plain w c j h used (Loads.stopChecks w number) _ s (λ q. h)
-  taken-kept (Record.Car number line motion transition opens) s p = car-kept w c j h used number line motion transition opens s
-  taken-kept (Record.Rider number rider) s p = plain w c j h used (Loads.riderChecks w number rider) _ s (λ q. h)
-  taken-kept (Record.Send car stop reposition) s p = send-kept w c j h used car stop reposition s
-  taken-kept (Record.Mode car mode) s p =
-      changed-cases (λ (o : Outcome). Untouched c o → Kept w c j o) (Orders.orderChecks w car) w (withCar w car (Orders.inMode (carAt (w .cars) car) mode)) (c .log)
-      used (λ r _. refuses w c j h used r)
-      (λ q m. quiet w c j h used (accepted used 0 (withCar w car (Orders.inMode (carAt (w .cars) car) mode)) (c .log)) (s .0)
-      (let l : car < w .«car_count» = loaded w j h car (q .1 .0) in
-      ordered w j h car (Orders.inMode (carAt (w .cars) car) mode) l (record { sound = fit w j h car l .sound; tame = s .1 m }) refl)) p
-  taken-kept (Record.ManualSpeed car speed) s p =
+  taken-kept (Record.Stop number position) s = plain w c j h used (Loads.stopChecks w number) _ s (λ q. h)
+  taken-kept (Record.Car number line motion transition opens) s = car-kept w c j h used number line motion transition opens s
+  taken-kept (Record.Rider number rider) s = plain w c j h used (Loads.riderChecks w number rider) _ s (λ q. h)
+  taken-kept (Record.Send car stop reposition) s = send-kept w c j h used car stop reposition s
+  taken-kept (Record.Mode car mode) s =
+      let d : Car = Orders.inMode (carAt (w .cars) car) mode in
+      changed-cases (Gives w c j) (Orders.orderChecks w car) w (withCar w car d) (c .log) used (refuses w c j h used)
+      (λ q e. let l : car < w .«car_count» = loaded w j h car (q .1 .0) in
+      quiet w c j h used (accepted used 0 (withCar w car d) (c .log)) (s .0)
+      (ordered w j h car d l (record { sound = fit w j h car l .sound; tame = s .1 (rw e at p) }) refl) e)
+  taken-kept (Record.ManualSpeed car speed) s =
       order w c j h used (Orders.orderChecks w car) car (Orders.atSpeed (carAt (w .cars) car) speed) s (λ q. q .1 .0)
       (λ f. record { sound = f .sound; tame = f .tame }) refl
-  taken-kept (Record.DoorCommand car command) s p =
+  taken-kept (Record.DoorCommand car command) s =
       order w c j h used (Orders.commandChecks w car) car (Orders.commanded (carAt (w .cars) car) command) s (λ q. q .1 .0)
       (λ f. record { sound = f .sound; tame = f .tame }) refl
-  taken-kept (Record.HallCall stop down) s p = plain w c j h used (Orders.callChecks w stop) _ s (λ q. h)
-  taken-kept (Record.Destination car stop) s p =
+  taken-kept (Record.HallCall stop down) s = plain w c j h used (Orders.callChecks w stop) _ s (λ q. h)
+  taken-kept (Record.Destination car stop) s =
       order w c j h used (Orders.destinationChecks w car stop) car (Orders.destined (carAt (w .cars) car) stop) s
       (λ q. or-left (Loads.noSuchCar w car) (unloaded (w .«stop_count») stop) (q .1 .0)) (λ f. record { sound = f .sound; tame = f .tame }) refl
-  taken-kept (Record.Enable car enabled) s p =
+  taken-kept (Record.Enable car enabled) s =
       order w c j h used (Orders.orderChecks w car) car (Orders.marked (carAt (w .cars) car) enabled) s (λ q. q .1 .0)
       (λ f. record { sound = f .sound; tame = f .tame }) refl
-  taken-kept (Record.Tick dt) s p = tick-kept w c j h used dt u s
-  taken-kept Record.Start s p = plain w c j h used (Loads.startChecks w) _ s (λ q. h)
+  taken-kept (Record.Tick dt) s = tick-kept w c j h used dt u s
+  taken-kept Record.Start s = plain w c j h used (Loads.startChecks w) _ s (λ q. h)
 
-read-kept : (w : World) (c : Call) (j : List ℕ) → Keeps j w → Unbroken w → (serves : List ℕ) (r : Read) → Reads (headOf c) r
-    → Untouched c (readBy w (c .log) serves r) → Kept w c j (readBy w (c .log) serves r)
-read-kept w c j h u serves (Read.Refused r) s p = refuses w c j h 0 r
-read-kept w c j h u serves (Read.Accepted read used) s p = taken-kept w c j h u used serves read s p
+read-kept : (w : World) (c : Call) (j : List ℕ) → Keeps j w → putsManual w c ≡ false → Unbroken w → (serves : List ℕ) (r : Read) → Reads (headOf c) r
+    → Gives w c j (readBy w (c .log) serves r)
+read-kept w c j h p u serves (Read.Refused r) s = refuses w c j h 0 r
+read-kept w c j h p u serves (Read.Accepted read used) s = taken-kept w c j h p u used serves read s
 
-pub call-kept : (w : World) (c : Call) (j : List ℕ) → Keeps j w → putsManual w c ≡ false → Kept w c j (outcome w c)
-unfolding outcome recordOf
-call-kept w c j h =
-    unless-cases (λ (o : Outcome). Untouched c o → Kept w c j o) (check BrokenWorld (broken w) ∷ []) w (c .log)
-    (readBy w (c .log) (decoded (c .words) .serves) (decoded (c .words) .read)) (λ r _. refuses w c j h 0 r)
-    (λ q. read-kept w c j h (unbroken w (q .0)) (decoded (c .words) .serves) (decoded (c .words) .read) (decoded-reads (c .words)))
+record-kept : (w : World) (c : Call) (j : List ℕ) → Keeps j w → putsManual w c ≡ false → Gives w c j (recordOf w (c .words) (c .log))
+unfolding recordOf
+record-kept w c j h p =
+    unless-cases (Gives w c j) (check BrokenWorld (broken w) ∷ []) w (c .log)
+    (readBy w (c .log) (decoded (c .words) .serves) (decoded (c .words) .read)) (refuses w c j h 0)
+    (λ q. read-kept w c j h p (unbroken w (q .0)) (decoded (c .words) .serves) (decoded (c .words) .read) (decoded-reads (c .words)))
+
+pub call-kept : (w : World) (c : Call) (j : List ℕ) → Keeps j w → putsManual w c ≡ false → Kept w c j
+unfolding outcome
+call-kept w c j h p = record-kept w c j h p refl

@@ -2,9 +2,8 @@
 use mathlib.Core.Path.{_≡_, refl, ap, _∙_}
 use mathlib.Core.Bool.{Bool, true, false}
 use mathlib.Core.List.{List, [], _∷_, _++_, append-assoc}
-use Prim.Native.Nat.{ℕ, zero, suc, _+_, _<_, _≤_, _^_, min}
+use Prim.Native.Nat.{ℕ, zero, suc, _+_, _≤_, min}
 use native.Mathlib.Omega.{arith}
-use lib.Dec.{leb}
 use lib.Ieee.{Float}
 use Rattle.door.specs.Door.{isClosed}
 use Rattle.world.specs.World.{carAt}
@@ -16,7 +15,7 @@ use Rattle.world.specs.declared.StopOption.the-variants.{NoStop, Stop}
 use Rattle.log.specs.Words.{bit, wordOf}
 use Rattle.log.specs.declared.Event.the-variants.{TickMade}
 use Rattle.log.proofs.Reading.{kind-tick}
-use Rattle.steps.specs.Steps.{runTo, runCars}
+use Rattle.steps.specs.Steps.{runCars}
 use Rattle.steps.specs.declared.JustOpened.{JustOpened}
 use Rattle.movement_system.specs.Movement.{moveOf, moved}
 use Rattle.doors_system.specs.Doors.{Standing, clears, clearWord, clearMatchingWords, openedOf, clearTo, clearWordsTo, standing, carsOf, doorOf, doored, doorsWorld, doorsWords}

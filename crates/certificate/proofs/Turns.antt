@@ -1,6 +1,6 @@
 -- A car's turn in either system keeps what the third condition needs of the car. Assumes nothing.
 use mathlib.Core.Path.{_≡_, refl, sym, _∙_}
-use mathlib.Core.Bool.{Bool, true, false, _&&_, cond, Bool·beq}
+use mathlib.Core.Bool.{Bool, true, false, _&&_, Bool·beq}
 use mathlib.Core.List.{List, [], _∷_, _++_}
 use Prim.Native.Nat.{ℕ, zero, suc, _+_, _-_, _*_, _<_, min}
 use lib.Dec.{leb}
@@ -32,15 +32,14 @@ use Rattle.trips.specs.Spans.{spanOf, movingUp}
 use Rattle.trips.specs.Landing.{leaderOf, landing}
 use Rattle.trips.specs.Arrival.{arrivalLamps, workOf}
 use Rattle.trips.specs.declared.Trip.{Trip}
-use Rattle.trips.specs.declared.Trip.the-variants.{Rests, Drives, GoesTo, Repositions}
+use Rattle.trips.specs.declared.Trip.the-variants.{Rests, GoesTo, Repositions}
 use Rattle.movement_system.specs.Passing.{passingWords}
 use Rattle.movement_system.specs.Movement as Movement
 use Rattle.movement_system.specs.Movement.{passedOver, moveOf}
-use Rattle.doors_system.specs.Commands.{applyOpen, applyClose, applyHold, applyCancelHold, tryApplyCommand, tried, queued, triedOn, worked, appliedWords, workTo, workWordsTo, processDoorCommands, commandWords, atStop, hasRiderTraversing}
-use Rattle.doors_system.specs.Doors.{Turn, departedFrom, finishedOpening, finishedClosing, finishBy, stays, rests, doorBy, doorTurn, turnOn, doorOf}
+use Rattle.doors_system.specs.Commands.{applyOpen, applyClose, applyHold, applyCancelHold, tryApplyCommand, queued, triedOn, workTo, workWordsTo, processDoorCommands, commandWords}
+use Rattle.doors_system.specs.Doors.{Turn, departedFrom, finishedOpening, finishedClosing, finishBy, stays, rests, doorBy, doorTurn, doorOf}
 use Rattle.doors_system.specs.declared.commands.Tried.{Tried}
 use Rattle.doors_system.specs.declared.commands.Work.{Work}
-use Rattle.lookup.specs.Stops.{loopNextStopForCar}
 use Rattle.tick.proofs.Passed.{both, cases}
 use Rattle.certificate.proofs.Watch.{Told, told-none, told-join, told-dull, told-move, told-opened, told-closed}
 

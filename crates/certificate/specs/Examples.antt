@@ -6,7 +6,6 @@ use Prim.Native.Nat.{ℕ}
 use lib.ListN.{replicate}
 use Rattle.door.specs.Door.{isClosed}
 use Rattle.world.specs.World.{carAt, emptyWorld}
-use Rattle.world.specs.declared.World.{World}
 use Rattle.record.specs.Calls.{Call, worldAfter}
 use Rattle.certificate.specs.Certificate.{isTick, NoManual, DoorsHold, joined, LogHolds}
 
