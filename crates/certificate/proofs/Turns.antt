@@ -6,7 +6,7 @@ use Prim.Native.Nat.{ℕ, zero, suc, _+_, _-_, _*_, _<_, min}
 use lib.Dec.{leb}
 use lib.Ieee.{Float}
 use Rattle.motion.specs.declared.movement.MovementResult.{MovementResult}
-use Rattle.motion.proofs.Cases.{yes}
+use Rattle.motion.proofs.Cases.{yes, no}
 use Rattle.door.specs.Door.{isClosed, tick}
 use Rattle.door.specs.declared.Ticked.{Ticked}
 use Rattle.door.specs.declared.DoorState.{DoorState}
@@ -41,7 +41,7 @@ use Rattle.doors_system.specs.Doors.{Turn, departedFrom, finishedOpening, finis
 use Rattle.doors_system.specs.declared.commands.Tried.{Tried}
 use Rattle.doors_system.specs.declared.commands.Work.{Work}
 use Rattle.tick.proofs.Passed.{both, cases}
-use Rattle.certificate.proofs.Watch.{Told, told-none, told-join, told-dull, told-move, told-opened, told-closed}
+use Rattle.certificate.proofs.Watch.{Told, told-none, told-join, told-dull, told-word}
 
 -- phase and door agree, and where the door is closed the log says so too
 pub data Sound : ElevatorPhase → DoorState → Bool → Type 0 where
@@ -77,7 +77,7 @@ lamps-told i o was lamps =
 passing-told : (i : ℕ) (up : Bool) (ss : List ℕ) → i < 16 → Told i false false (passingWords i up ss)
 unfolding passingWords
 passing-told i up [] low = told-none i false
-passing-told i up (s ∷ ss) low = told-join (told-move i low 1 s (bit up) refl refl refl) (passing-told i up ss low)
+passing-told i up (s ∷ ss) low = told-join (told-word i low 1 s (bit up) (λ _. refl) refl) (passing-told i up ss low)
 
 -- a car that makes a trip has a closed door, by the log too
 data Suited : Trip → DoorState → Bool → Type 0 where
@@ -111,7 +111,7 @@ module _ (i : ℕ) (low : i < 16) (kind : LineKind) (stops : List Float) (n tick
   arrived-good : (distance : Float) (s : ℕ) (lamps : Lamps) → Fit c false → Moves false (Movement.arrivedOf i total c r distance s lamps)
   arrived-good distance s lamps f = record {
     end = false;
-    told = told-join (told-move i low 2 s 0 refl refl refl) (lamps-told i false (lampsOf c) lamps);
+    told = told-join (told-word i low 2 s 0 (λ _. refl) refl) (lamps-told i false (lampsOf c) lamps);
     fit = record { sound = opening; tame = f .tame };
   }
 
@@ -119,7 +119,7 @@ module _ (i : ℕ) (low : i < 16) (kind : LineKind) (stops : List Float) (n tick
   repositioned-good distance s e f = record {
     end = false;
     told =
-        told-join (told-move i low 3 s 0 refl refl refl)
+        told-join (told-word i low 3 s 0 (λ _. refl) refl)
         (told-join (told-dull i false 4 i s 0 refl refl refl) (lamps-told i false (lampsOf c) bothLit));
     fit = record { sound = rw e idle; tame = f .tame };
   }
@@ -246,17 +246,17 @@ module _ (i : ℕ) (low : i < 16) (c : Car) (tame : isManual (c .«service_mode�
   departed-told (Stop s) = told-dull i false 8 i s 0 refl refl refl
 
   opened-good : (o : Bool) (od cd : ℕ) → Turns o (finishedOpening i c k (Open od cd))
-  opened-good o od cd = record { end = true; told = told-opened i low o; fit = record { sound = loading; tame = tame } }
+  opened-good o od cd = record { end = true; told = told-word i low 6 0 0 (λ h. no h) refl; fit = record { sound = loading; tame = tame } }
 
   closed-good : (o : Bool) (next : StopOption) → Turns o (finishedClosing next i c k Closed)
   closed-good o NoStop = record {
     end = false;
-    told = told-join (told-closed i low o) (lamps-told i false (lampsOf c) bothLit);
+    told = told-join (told-word i low 7 0 0 (λ h. no h) refl) (lamps-told i false (lampsOf c) bothLit);
     fit = record { sound = stopped; tame = tame };
   }
   closed-good o (Stop s) = record {
     end = false;
-    told = told-join (told-closed i low o) (told-join (lamps-told i false (lampsOf c) unlit) (departed-told (c .«target_stop»)));
+    told = told-join (told-word i low 7 0 0 (λ h. no h) refl) (told-join (lamps-told i false (lampsOf c) unlit) (departed-told (c .«target_stop»)));
     fit = record { sound = moving; tame = tame };
   }
 
@@ -282,10 +282,10 @@ module _ (i : ℕ) (low : i < 16) (c : Car) (tame : isManual (c .«service_mode�
 after-good : {i : ℕ} {o : Bool} {c : Car} {ws vs : List ℕ} → Told i o o ws → Good i o c vs → Good i o c (ws ++ vs)
 after-good p g = record { end = g .end; told = told-join p (g .told); fit = g .fit }
 
-turn-good′ : (i : ℕ) (low : i < 16) (c : Car) (at traversing : Bool) (next : StopOption) (o : Bool) → Fit c o
+door-turn : (i : ℕ) (low : i < 16) (c : Car) (at traversing : Bool) (next : StopOption) (o : Bool) → Fit c o
     → Good i o (doorTurn i c at traversing next .car) (doorTurn i c at traversing next .words)
 unfolding processDoorCommands commandWords
-turn-good′ i low c at traversing next o f =
+door-turn i low c at traversing next o f =
     both (λ (t : Turn). Good i o (t .car) (t .words)) (c .enabled)
     (after-good (words-told c at traversing i o (f .sound) (min (c .«command_count») 8))
     (door-by i low c (f .tame) k next (k .phase) (k .door) o (work-sound c at traversing i o (f .sound) (min (c .«command_count») 8))))
@@ -296,7 +296,7 @@ turn-good′ i low c at traversing next o f =
 
 pub door-good : (w : World) (i : ℕ) (o : Bool) → i < 16 → Fit (carAt (w .cars) i) o → Good i o (doorOf w i .car) (doorOf w i .words)
 unfolding doorOf
-door-good w i o low f = turn-good′ i low (carAt (w .cars) i) _ _ _ o f
+door-good w i o low f = door-turn i low (carAt (w .cars) i) _ _ _ o f
 
 -- no turn of the doors moves a car
 closing-stands : (next : StopOption) (i : ℕ) (c : Car) (k : Work) (d : DoorState) → finishedClosing next i c k d .car .motion ≡ c .motion

@@ -26,7 +26,7 @@ car = call (0x3000_0000 ∷ 0 ∷ 0 ∷ 0 ∷ 0 ∷ 0x4000_0000 ∷ 0 ∷ 0x3ff0
 abbrev line : Call
 line = call (0x1000_ffff ∷ 0 ∷ 0 ∷ 0 ∷ 0 ∷ [])
 
--- stop s, with the high half of its position
+-- a stop's head, and the high half of its position
 abbrev stop : ℕ → ℕ → Call
 stop head high = call (head ∷ high ∷ 0 ∷ [])
 
@@ -69,7 +69,8 @@ pub record Examples : Type 0 where
   -- the tape's second tick begins with a door that is not closed
   pub ticks : isTick (worldAfter emptyWorld departure) (call half) ≡ true
   pub ajar : isClosed (carAt (worldAfter emptyWorld departure .cars) 0 .door) ≡ false
-  -- with a car in Manual mode two of its parts do not hold
+  -- with a car in Manual mode, which passes stop 1 with its door open, two of its parts do not hold
   pub puts : NoManual emptyWorld manual → ⊥
+  pub drives : joined emptyWorld manual ≡ 0x0000_0000 ∷ 0xa000_0000 ∷ 0x6000_0000 ∷ 0x0000_0001 ∷ 0x1001_0001 ∷ []
   pub doors : DoorsHold emptyWorld manual → ⊥
   pub words : LogHolds (joined emptyWorld manual) → ⊥
