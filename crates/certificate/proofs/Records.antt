@@ -154,7 +154,8 @@ abbrev Gives : World → Call → List ℕ → Outcome → Type 0
 Gives w c j o = outcome w c ≡ o → Kept w c j
 
 -- its words and world in place of the outcome's
-kept : (w : World) (c : Call) (j ws : List ℕ) (o : Outcome) → told w c ≡ ws → Keeps (j ++ ws) (o .world) → (isTick w c ≡ true → Stands w (o .world)) → Gives w c j o
+kept : (w : World) (c : Call) (j ws : List ℕ) (o : Outcome) → told w c ≡ ws → Keeps (j ++ ws) (o .world)
+    → (isTick w c ≡ true → Stands w (o .world)) → Gives w c j o
 unfolding next
 kept w c j ws o t k s e = record {
   keeps = subst (λ (v : World). Keeps (j ++ told w c) v) (sym world) (subst (λ (l : List ℕ). Keeps (j ++ l) (o .world)) (sym t) k);

@@ -42,7 +42,8 @@ quarter = 0xc000_0000 ∷ 0x3fd0_0000 ∷ 0 ∷ []
 -- stops 0 at 0, 1 at 0.25 and 2 at 0.21875; line, car and start; send to 1; the first tick
 abbrev departure : List Call
 departure =
-    stop 0x2000_0000 0 ∷ stop 0x2001_0000 0x3fd0_0000 ∷ stop 0x2002_0000 0x3fcc_0000 ∷ line ∷ car ∷ call (0xd000_0000 ∷ []) ∷ call (0x5001_0000 ∷ []) ∷ call half ∷ []
+    stop 0x2000_0000 0 ∷ stop 0x2001_0000 0x3fd0_0000 ∷ stop 0x2002_0000 0x3fcc_0000 ∷ line ∷ car ∷ call (0xd000_0000 ∷ [])
+    ∷ call (0x5001_0000 ∷ []) ∷ call half ∷ []
 
 -- a tick refused for its log of 17 words; three ticks; repositioned to stop 0, past stop 2
 abbrev return : List Call
@@ -56,8 +57,8 @@ tape = departure ++ return
 
 abbrev manual : List Call
 manual =
-    stop 0x2000_0000 0 ∷ stop 0x2001_0000 0x3fc0_0000 ∷ line ∷ car ∷ call (0xd000_0000 ∷ []) ∷ call (0x8000_0000 ∷ []) ∷ call half ∷ call (0x6000_0003 ∷ [])
-    ∷ call (0x7000_0001 ∷ 0x3ff0_0000 ∷ 0 ∷ []) ∷ call half ∷ []
+    stop 0x2000_0000 0 ∷ stop 0x2001_0000 0x3fc0_0000 ∷ line ∷ car ∷ call (0xd000_0000 ∷ [])
+    ∷ call (0x8000_0000 ∷ []) ∷ call half ∷ call (0x6000_0003 ∷ []) ∷ call (0x7000_0001 ∷ 0x3ff0_0000 ∷ 0 ∷ []) ∷ call half ∷ []
 
 pub record Examples : Type 0 where
   -- the condition speaks of the tape, in which a car arrives, opens, closes, passes a stop and is repositioned; three moves
