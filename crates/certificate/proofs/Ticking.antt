@@ -1,0 +1,123 @@
+-- A tick keeps what is held, and moves no car whose door was not closed when it began. Assumes nothing.
+use mathlib.Core.Path.{_≡_, refl, ap, _∙_}
+use mathlib.Core.Bool.{Bool, true, false}
+use mathlib.Core.List.{List, [], _∷_, _++_, append-assoc}
+use Prim.Native.Nat.{ℕ, zero, suc, _+_, _≤_, min}
+use native.Mathlib.Omega.{arith}
+use lib.Ieee.{Float}
+use Rattle.door.specs.Door.{isClosed}
+use Rattle.world.specs.World.{carAt}
+use Rattle.world.specs.declared.World.{World}
+use Rattle.world.specs.declared.Car.{Car}
+use Rattle.world.specs.declared.Motion.{Motion}
+use Rattle.world.specs.declared.StopOption.{StopOption}
+use Rattle.world.specs.declared.StopOption.the-variants.{NoStop, Stop}
+use Rattle.log.specs.Words.{bit, wordOf}
+use Rattle.log.specs.declared.Event.the-variants.{TickMade}
+use Rattle.log.proofs.Reading.{kind-tick}
+use Rattle.steps.specs.Steps.{runCars}
+use Rattle.steps.specs.declared.JustOpened.{JustOpened}
+use Rattle.movement_system.specs.Movement.{moveOf, moved}
+use Rattle.doors_system.specs.Doors.{Standing, clears, clearWord, clearMatchingWords, openedOf, clearTo, clearWordsTo, standing, carsOf, doorOf, doored, doorsWorld, doorsWords}
+use Rattle.tick.specs.Tick.{tickWorld, tickWords}
+use Rattle.tick.specs.Counters.{movesIn, sumTo, countOf, Low, Counts, NothingWraps}
+use Rattle.tick.proofs.Passed.{both}
+use Rattle.tick.proofs.Turns.{moves-append}
+use Rattle.tick.proofs.Proved.{nothing-wraps}
+use Rattle.certificate.specs.Certificate.{positionOf}
+use Rattle.certificate.proofs.Watch.{Told, told-none, told-join, told-tick, told-dull}
+use Rattle.certificate.proofs.Turns.{move-good, move-rests, door-good, door-stands}
+use Rattle.certificate.proofs.Holding.{Held, Summed, held-dull, Ran, run-ran}
+
+-- ---- the two systems
+
+-- a car whose door is not closed stays as it is
+abbrev Rests : Car → Car → Type 0
+Rests c d = isClosed (c .door) ≡ false → d ≡ c
+
+rests-then : (a b c : Car) → Rests a b → Rests b c → Rests a c
+rests-then a b c p q h = q (rw (p h) h) ∙ p h
+
+moved-ran : (w : World) (dt : Float) (log : List ℕ) → Held (w .cars) (w .«car_count») log → Ran Rests w log (moved w dt)
+unfolding moved runCars
+moved-ran w dt log h =
+    run-ran (moveOf dt) Rests (λ c e. refl) rests-then (λ v i o l f. move-good dt v i o l f) (λ v i o l f. move-rests dt v i o l f) w log h
+    (min (w .«car_count») 16) (omega arith)
+
+-- a car stays where it is
+abbrev Stands : Car → Car → Type 0
+Stands c d = d .motion ≡ c .motion
+
+doored-ran : (w : World) (log : List ℕ) → Held (w .cars) (w .«car_count») log → Ran Stands w log (doored w)
+unfolding doored runCars
+doored-ran w log h =
+    run-ran doorOf Stands (λ c. refl) (λ a b c p q. q ∙ p) door-good (λ v i o l f. door-stands v i) w log h (min (w .«car_count») 16) (omega arith)
+
+-- ---- the hall calls' words say nothing of a door
+
+module _ (i : ℕ) (o : Bool) where
+  match-told : (stop : StopOption) (n : ℕ) (j : JustOpened) (h : Standing) → Told i o o (clearMatchingWords stop n j h)
+  unfolding clearWord
+  match-told NoStop n j h = told-none i o
+  match-told (Stop s) n j h =
+      told-join
+      (both (Told i o o) (clears (h .up) s (j .«going_up»)) (told-dull i o 9 n s (bit false) refl refl refl) (told-none i o))
+      (both (Told i o o) (clears (h .down) s (j .«going_down»)) (told-dull i o 9 n s (bit true) refl refl refl) (told-none i o))
+
+  calls-told : (os : List JustOpened) (h : Standing) (n : ℕ) → Told i o o (clearWordsTo os h n)
+  unfolding clearWordsTo
+  calls-told os h zero = told-none i o
+  calls-told os h (suc n) = told-join (calls-told os h n) (match-told (openedOf os h n .stop) n (openedOf os h n) (clearTo os h n))
+
+-- ---- a tick
+
+pub record Ticks (w : World) (dt : Float) (log : List ℕ) : Type 0 where
+  pub held : Held (tickWorld w dt .cars) (tickWorld w dt .«car_count») (log ++ tickWords w dt)
+  pub stands : (i : ℕ) → isClosed (carAt (w .cars) i .door) ≡ false → positionOf (tickWorld w dt) i ≡ positionOf w i
+  pub count : tickWorld w dt .«car_count» ≡ w .«car_count»
+
+regroup : (l : List ℕ) (x : ℕ) (a b c : List ℕ) → l ++ (x ∷ (a ++ (b ++ c))) ≡ l ++ (x ∷ []) ++ a ++ b ++ c
+regroup l x a b c = simp append-assoc
+
+pub tick-ticks : (w : World) (dt : Float) (log : List ℕ) → Held (w .cars) (w .«car_count») log → Ticks w dt log
+unfolding tickWorld tickWords doorsWorld doorsWords
+tick-ticks w dt log h = record {
+  held = rw (d .count, regroup log (wordOf (TickMade (w .ticks))) (moved w dt .words) (doored v .words) (clearWordsTo os (standing v) (carsOf v)))
+      (held-dull (d .held) (λ i o. calls-told i o os (standing v) (carsOf v)));
+  stands = λ i q. ap (λ (m : Motion). m .position) (d .keeps i) ∙ ap (λ (c : Car). c .motion .position) (m .keeps i q);
+  count = d .count ∙ m .count;
+}
+  where
+    v : World
+    v = moved w dt .world
+
+    os : List JustOpened
+    os = doored v .opened
+
+    begun : List ℕ
+    begun = log ++ (wordOf (TickMade (w .ticks)) ∷ [])
+
+    m : Ran Rests w begun (moved w dt)
+    m = moved-ran w dt begun (held-dull h (λ i o. told-tick i o (wordOf (TickMade (w .ticks))) (kind-tick (w .ticks))))
+
+    d : Ran Stands v (begun ++ moved w dt .words) (doored v)
+    d = doored-ran v (begun ++ moved w dt .words) (rw (m .count) (m .held))
+
+-- its moves are counted
+all-cars : (n : ℕ) → n ≤ 16 → min n 16 ≡ n
+all-cars n h = omega arith
+
+pub tick-sums : (w : World) (dt : Float) (log : List ℕ) → w .«car_count» ≤ 16 → tickWorld w dt .«car_count» ≡ w .«car_count» → Low w
+    → Summed (w .cars) (w .«car_count») (w .«total_moves») log
+    → Summed (tickWorld w dt .cars) (tickWorld w dt .«car_count») (tickWorld w dt .«total_moves») (log ++ tickWords w dt)
+unfolding NothingWraps
+tick-sums w dt log few same low s = record {
+  cars = rw same (k .total ∙ omega (arith, s .cars, sums));
+  words = k .total ∙ omega (arith, s .words, moves-append log (tickWords w dt));
+}
+  where
+    k : Counts w dt
+    k = nothing-wraps .1 w dt low
+
+    sums : sumTo (countOf (tickWorld w dt)) (w .«car_count») ≡ sumTo (countOf w) (w .«car_count») + movesIn (tickWords w dt)
+    sums = rw (all-cars (w .«car_count») few) at (k .sum)

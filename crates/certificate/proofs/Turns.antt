@@ -1,0 +1,323 @@
+-- A car's turn in either system keeps what the third condition needs of the car. Assumes nothing.
+use mathlib.Core.Path.{_≡_, refl, sym, _∙_}
+use mathlib.Core.Bool.{Bool, true, false, _&&_, Bool·beq}
+use mathlib.Core.List.{List, [], _∷_, _++_}
+use Prim.Native.Nat.{ℕ, zero, suc, _+_, _-_, _*_, _<_, min}
+use lib.Dec.{leb}
+use lib.Ieee.{Float}
+use Rattle.motion.specs.declared.movement.MovementResult.{MovementResult}
+use Rattle.motion.proofs.Cases.{yes, no}
+use Rattle.door.specs.Door.{isClosed, tick}
+use Rattle.door.specs.declared.Ticked.{Ticked}
+use Rattle.door.specs.declared.DoorState.{DoorState}
+use Rattle.door.specs.declared.DoorState.the-variants.{Closed, Opening, Open, Closing}
+use Rattle.door.specs.declared.DoorTransition.{DoorTransition}
+use Rattle.door.specs.declared.DoorTransition.the-variants.{None, FinishedOpening, FinishedOpen, FinishedClosing}
+use Rattle.door.specs.declared.DoorCommand.{DoorCommand}
+use Rattle.door.specs.declared.DoorCommand.the-variants as Command
+use Rattle.world.specs.World.{carAt}
+use Rattle.world.specs.declared.World.{World}
+use Rattle.world.specs.declared.Car.{Car}
+use Rattle.world.specs.declared.QueuedCommand.{QueuedCommand}
+use Rattle.world.specs.declared.LineKind.{LineKind}
+use Rattle.world.specs.declared.ElevatorPhase.{ElevatorPhase}
+use Rattle.world.specs.declared.ElevatorPhase.the-variants.{Idle, MovingToStop, Repositioning, DoorOpening, Loading, DoorClosing, Stopped}
+use Rattle.world.specs.declared.StopOption.{StopOption}
+use Rattle.world.specs.declared.StopOption.the-variants.{NoStop, Stop}
+use Rattle.log.specs.Words.{bit, codeOf, ticksOf}
+use Rattle.steps.specs.Steps.{isManual, isInspection, lineOf, lampsOf, bothLit, unlit, updateIndicators, Step}
+use Rattle.steps.specs.declared.Lamps.{Lamps}
+use Rattle.trips.specs.Trips.{tripBy, tripOf, travelled, distanceAfter}
+use Rattle.trips.specs.Spans.{spanOf, movingUp}
+use Rattle.trips.specs.Landing.{leaderOf, landing}
+use Rattle.trips.specs.Arrival.{arrivalLamps, workOf}
+use Rattle.trips.specs.declared.Trip.{Trip}
+use Rattle.trips.specs.declared.Trip.the-variants.{Rests, GoesTo, Repositions}
+use Rattle.movement_system.specs.Passing.{passingWords}
+use Rattle.movement_system.specs.Movement as Movement
+use Rattle.movement_system.specs.Movement.{passedOver, moveOf}
+use Rattle.doors_system.specs.Commands.{applyOpen, applyClose, applyHold, applyCancelHold, tryApplyCommand, queued, triedOn, workTo, workWordsTo, processDoorCommands, commandWords}
+use Rattle.doors_system.specs.Doors.{Turn, departedFrom, finishedOpening, finishedClosing, finishBy, stays, rests, doorBy, doorTurn, doorOf}
+use Rattle.doors_system.specs.declared.commands.Tried.{Tried}
+use Rattle.doors_system.specs.declared.commands.Work.{Work}
+use Rattle.tick.proofs.Passed.{both, cases}
+use Rattle.certificate.proofs.Watch.{Told, told-none, told-join, told-dull, told-word}
+
+-- phase and door agree, and where the door is closed the log says so too
+pub data Sound : ElevatorPhase → DoorState → Bool → Type 0 where
+  idle : Sound Idle Closed false
+  stopped : Sound Stopped Closed false
+  moving : {s : ℕ} → Sound (MovingToStop s) Closed false
+  repositioning : {s : ℕ} → Sound (Repositioning s) Closed false
+  opening : {t od cd : ℕ} {o : Bool} → Sound DoorOpening (Opening t od cd) o
+  loading : {t cd : ℕ} {o : Bool} → Sound Loading (Open t cd) o
+  closing : {t : ℕ} {o : Bool} → Sound DoorClosing (Closing t) o
+
+-- a car as the condition needs it, its door open by the log or not
+pub record Fit (c : Car) (o : Bool) : Type 0 where
+  pub sound : Sound (c .phase) (c .door) o
+  pub tame : isManual (c .«service_mode») ≡ false
+
+-- what a turn of car i leaves: the car and its words
+pub record Good (i : ℕ) (o : Bool) (c : Car) (ws : List ℕ) : Type 0 where
+  pub end : Bool
+  pub told : Told i o end ws
+  pub fit : Fit c end
+
+still : (i : ℕ) (o : Bool) (c : Car) → Fit c o → Good i o c []
+still i o c f = record { end = o; told = told-none i o; fit = f }
+
+lamps-told : (i : ℕ) (o : Bool) (was lamps : Lamps) → Told i o o (updateIndicators i was lamps)
+lamps-told i o was lamps =
+    both (Told i o o) (Bool·beq (was .«going_up») (lamps .«going_up») && Bool·beq (was .«going_down») (lamps .«going_down»)) (told-none i o)
+    (told-dull i o 5 i 0 (2 * bit (lamps .«going_up») + bit (lamps .«going_down»)) refl refl refl)
+
+-- ---- movement
+
+passing-told : (i : ℕ) (up : Bool) (ss : List ℕ) → i < 16 → Told i false false (passingWords i up ss)
+unfolding passingWords
+passing-told i up [] low = told-none i false
+passing-told i up (s ∷ ss) low = told-join (told-word i low 1 s (bit up) (λ _. refl) refl) (passing-told i up ss low)
+
+-- a car that makes a trip has a closed door, by the log too
+data Suited : Trip → DoorState → Bool → Type 0 where
+  resting : {d : DoorState} {o : Bool} → Suited Rests d o
+  going : {s : ℕ} → Suited (GoesTo s) Closed false
+  repositions : {s : ℕ} → Suited (Repositions s) Closed false
+
+suited-by : (p : ElevatorPhase) (d : DoorState) (o : Bool) → Sound p d o → Suited (tripBy p) d o
+suited-by p d o idle = resting
+suited-by p d o stopped = resting
+suited-by p d o moving = going
+suited-by p d o repositioning = repositions
+suited-by p d o opening = resting
+suited-by p d o loading = resting
+suited-by p d o closing = resting
+
+suited : (c : Car) (o : Bool) → Fit c o → Suited (tripOf c) (c .door) o
+suited c o f =
+    both (λ (t : Trip). Suited t (c .door) o) (c .enabled)
+    (cases (λ (t : Trip). Suited t (c .door) o) (isManual (c .«service_mode»)) (λ (h : isManual (c .«service_mode») ≡ true). yes (sym h ∙ f .tame))
+    (λ h. suited-by (c .phase) (c .door) o (f .sound)))
+    resting
+
+module _ (i : ℕ) (low : i < 16) (kind : LineKind) (stops : List Float) (n tick total : ℕ) (c : Car) (r : MovementResult) where
+  abbrev Moves : Bool → Step → Type 0
+  Moves o s = Good i o (s .car) (s .words)
+
+  pass-good : (distance : Float) (ss : List ℕ) → Fit c false → Moves false (Movement.passOf i kind total c r distance ss)
+  pass-good distance ss f = record { end = false; told = passing-told i (movingUp kind (c .motion .position) (r .position)) ss low; fit = record { sound = f .sound; tame = f .tame } }
+
+  arrived-good : (distance : Float) (s : ℕ) (lamps : Lamps) → Fit c false → Moves false (Movement.arrivedOf i total c r distance s lamps)
+  arrived-good distance s lamps f = record {
+    end = false;
+    told = told-join (told-word i low 2 s 0 (λ _. refl) refl) (lamps-told i false (lampsOf c) lamps);
+    fit = record { sound = opening; tame = f .tame };
+  }
+
+  repositioned-good : (distance : Float) (s : ℕ) → c .door ≡ Closed → Fit c false → Moves false (Movement.repositionedOf i tick total c r distance s)
+  repositioned-good distance s e f = record {
+    end = false;
+    told =
+        told-join (told-word i low 3 s 0 (λ _. refl) refl)
+        (told-join (told-dull i false 4 i s 0 refl refl refl) (lamps-told i false (lampsOf c) bothLit));
+    fit = record { sound = rw e idle; tame = f .tame };
+  }
+
+  turn-good : (trip : Trip) (d : DoorState) (o : Bool) (distance : Float) (work : Lamps) → Suited trip d o → c .door ≡ d → Fit c o
+      → Moves o (Movement.turnBy trip i kind stops n tick total distance c r work)
+  turn-good trip d o distance work resting e f = still i o c f
+  turn-good trip d o distance work (going {s}) e f =
+      both (Moves false) (r .arrived) (arrived-good distance s (arrivalLamps kind work c) f)
+      (pass-good distance (passedOver (spanOf kind (c .motion .position) (r .position)) stops n (Stop s)) f)
+  turn-good trip d o distance work (repositions {s}) e f =
+      let far : Float = distanceAfter distance (travelled kind (c .motion .position) (r .position)) in
+      both (Moves false) (r .arrived) (repositioned-good far s e f)
+      (pass-good far (passedOver (spanOf kind (c .motion .position) (r .position)) stops n (Stop s)) f)
+
+  -- a car whose door is not closed is left as it is
+  turn-rests : (trip : Trip) (d : DoorState) (o : Bool) (distance : Float) (work : Lamps) → Suited trip d o → isClosed d ≡ false
+      → Movement.turnBy trip i kind stops n tick total distance c r work .car ≡ c
+  turn-rests trip d o distance work resting h = refl
+  turn-rests trip d o distance work going h = yes h
+  turn-rests trip d o distance work repositions h = yes h
+
+module _ (dt : Float) (w : World) (i : ℕ) (o : Bool) (low : i < 16) (f : Fit (carAt (w .cars) i) o) where
+  abbrev c : Car
+  c = carAt (w .cars) i
+
+  abbrev kind : LineKind
+  kind = lineOf (w .lines) (c .line) .kind
+
+  abbrev land : MovementResult
+  land = landing (tripOf c) kind (leaderOf kind (w .cars) (w .«car_count») i c) c (w .stops) dt
+
+  pub move-good : Good i o (moveOf dt w i .car) (moveOf dt w i .words)
+  unfolding moveOf
+  move-good =
+      turn-good i low kind (w .stops) (min (w .«stop_count») 64) (w .ticks) (w .«total_moves») c land (tripOf c) (c .door) o (w .«reposition_distance»)
+      (workOf (tripOf c) (w .riders) (w .«rider_count») c (w .stops) i) (suited c o f) refl f
+
+  pub move-rests : isClosed (c .door) ≡ false → moveOf dt w i .car ≡ c
+  unfolding moveOf
+  move-rests =
+      turn-rests i low kind (w .stops) (min (w .«stop_count») 64) (w .ticks) (w .«total_moves») c land (tripOf c) (c .door) o (w .«reposition_distance»)
+      (workOf (tripOf c) (w .riders) (w .«rider_count») c (w .stops) i) (suited c o f)
+
+-- ---- door commands
+
+abbrev Agrees : Bool → Tried → Type 0
+Agrees o t = Sound (t .phase) (t .door) o
+
+open-agrees : (c : Car) (at : Bool) (p : ElevatorPhase) (d : DoorState) (o : Bool) → Sound p d o → Agrees o (applyOpen p d c at)
+open-agrees c at p d o idle = both (Agrees false) at opening idle
+open-agrees c at p d o stopped = both (Agrees false) at opening stopped
+open-agrees c at p d o moving = moving
+open-agrees c at p d o repositioning = repositioning
+open-agrees c at p d o opening = opening
+open-agrees c at p d o loading = loading
+open-agrees c at p d o closing = opening
+
+close-agrees : (c : Car) (traversing : Bool) (p : ElevatorPhase) (d : DoorState) (o : Bool) → Sound p d o → Agrees o (applyClose p d c traversing)
+close-agrees c traversing p d o idle = idle
+close-agrees c traversing p d o stopped = stopped
+close-agrees c traversing p d o moving = moving
+close-agrees c traversing p d o repositioning = repositioning
+close-agrees c traversing p d o opening = opening
+close-agrees c traversing p d o (loading {o = b}) = both (Agrees b) traversing loading closing
+close-agrees c traversing p d o closing = closing
+
+hold-agrees : (ticks : ℕ) (p : ElevatorPhase) (d : DoorState) (o : Bool) → Sound p d o → Agrees o (applyHold p d ticks)
+hold-agrees ticks p d o idle = idle
+hold-agrees ticks p d o stopped = stopped
+hold-agrees ticks p d o moving = moving
+hold-agrees ticks p d o repositioning = repositioning
+hold-agrees ticks p d o opening = opening
+hold-agrees ticks p d o loading = loading
+hold-agrees ticks p d o closing = closing
+
+cancel-agrees : (c : Car) (p : ElevatorPhase) (d : DoorState) (o : Bool) → Sound p d o → Agrees o (applyCancelHold p d c)
+cancel-agrees c p d o idle = idle
+cancel-agrees c p d o stopped = stopped
+cancel-agrees c p d o moving = moving
+cancel-agrees c p d o repositioning = repositioning
+cancel-agrees c p d o opening = opening
+cancel-agrees c p d o loading = loading
+cancel-agrees c p d o closing = closing
+
+try-agrees : (q : DoorCommand) (c : Car) (at traversing : Bool) (p : ElevatorPhase) (d : DoorState) (o : Bool) → Sound p d o
+    → Agrees o (tryApplyCommand q p d c at traversing)
+try-agrees Command.Open c at traversing p d o s = open-agrees c at p d o s
+try-agrees Command.Close c at traversing p d o s = close-agrees c traversing p d o s
+try-agrees (Command.HoldOpen ticks) c at traversing p d o s = hold-agrees ticks p d o s
+try-agrees Command.CancelHold c at traversing p d o s = cancel-agrees c p d o s
+
+module _ (c : Car) (at traversing : Bool) (i : ℕ) (o : Bool) (sound : Sound (c .phase) (c .door) o) where
+  work-sound : (n : ℕ) → Sound (workTo c at traversing n .phase) (workTo c at traversing n .door) o
+  unfolding workTo
+  work-sound zero = sound
+  work-sound (suc n) =
+      let k : Work = workTo c at traversing n in
+      let q : QueuedCommand = queued c at traversing n in
+      let t : Tried = triedOn c at traversing k q in
+      let s : Agrees o t = try-agrees (q .command) c at traversing (k .phase) (k .door) o (work-sound n) in
+      both (λ (x : Work). Sound (x .phase) (x .door) o) (t .applied) s s
+
+  words-told : (n : ℕ) → Told i o o (workWordsTo c at traversing i n)
+  unfolding workWordsTo
+  words-told zero = told-none i o
+  words-told (suc n) =
+      let q : QueuedCommand = queued c at traversing n in
+      told-join (words-told n)
+      (both (Told i o o) (triedOn c at traversing (workTo c at traversing n) q .applied)
+      (told-dull i o 10 i (codeOf (q .command)) (ticksOf (q .command)) refl refl refl) (told-none i o))
+
+-- ---- the door's tick
+
+module _ (i : ℕ) (low : i < 16) (c : Car) (tame : isManual (c .«service_mode») ≡ false) (k : Work) where
+  abbrev Turns : Bool → Turn → Type 0
+  Turns o t = Good i o (t .car) (t .words)
+
+  rests-good : (o : Bool) (p : ElevatorPhase) (d : DoorState) → Sound p d o → Turns o (rests c k p d)
+  rests-good o p d s = record { end = o; told = told-none i o; fit = record { sound = s; tame = tame } }
+
+  departed-told : (s : StopOption) → Told i false false (departedFrom s i)
+  departed-told NoStop = told-none i false
+  departed-told (Stop s) = told-dull i false 8 i s 0 refl refl refl
+
+  opened-good : (o : Bool) (od cd : ℕ) → Turns o (finishedOpening i c k (Open od cd))
+  opened-good o od cd = record { end = true; told = told-word i low 6 0 0 (λ h. no h) refl; fit = record { sound = loading; tame = tame } }
+
+  closed-good : (o : Bool) (next : StopOption) → Turns o (finishedClosing next i c k Closed)
+  closed-good o NoStop = record {
+    end = false;
+    told = told-join (told-word i low 7 0 0 (λ h. no h) refl) (lamps-told i false (lampsOf c) bothLit);
+    fit = record { sound = stopped; tame = tame };
+  }
+  closed-good o (Stop s) = record {
+    end = false;
+    told = told-join (told-word i low 7 0 0 (λ h. no h) refl) (told-join (lamps-told i false (lampsOf c) unlit) (departed-told (c .«target_stop»)));
+    fit = record { sound = moving; tame = tame };
+  }
+
+  door-by : (next : StopOption) (p : ElevatorPhase) (d : DoorState) (o : Bool) → Sound p d o → Turns o (doorBy p d i c k next)
+  door-by next p d o idle = rests-good false Idle Closed idle
+  door-by next p d o stopped = rests-good false Stopped Closed stopped
+  door-by next p d o (moving {s}) = rests-good false (MovingToStop s) Closed moving
+  door-by next p d o (repositioning {s}) = rests-good false (Repositioning s) Closed repositioning
+  door-by next p d o (opening {t} {od} {cd} {o = b}) =
+      both (Turns b) (isInspection (c .«service_mode») && false) (rests-good b DoorOpening (Opening t od cd) opening)
+      (both (λ (y : Ticked). Turns b (finishBy (y .transition) DoorOpening (y .door) i c k next)) (leb t 1) (opened-good b od cd)
+      (rests-good b DoorOpening (Opening (t - 1) od cd) opening))
+  door-by next p d o (loading {t} {cd} {o = b}) =
+      both (Turns b) (isInspection (c .«service_mode») && true) (rests-good b Loading (Open t cd) loading)
+      (both (λ (y : Ticked). Turns b (finishBy (y .transition) Loading (y .door) i c k next)) (leb t 1) (rests-good b DoorClosing (Closing cd) closing)
+      (rests-good b Loading (Open (t - 1) cd) loading))
+  door-by next p d o (closing {t} {o = b}) =
+      both (Turns b) (isInspection (c .«service_mode») && false) (rests-good b DoorClosing (Closing t) closing)
+      (both (λ (y : Ticked). Turns b (finishBy (y .transition) DoorClosing (y .door) i c k next)) (leb t 1) (closed-good b next)
+      (rests-good b DoorClosing (Closing (t - 1)) closing))
+
+-- words before a turn
+after-good : {i : ℕ} {o : Bool} {c : Car} {ws vs : List ℕ} → Told i o o ws → Good i o c vs → Good i o c (ws ++ vs)
+after-good p g = record { end = g .end; told = told-join p (g .told); fit = g .fit }
+
+door-turn : (i : ℕ) (low : i < 16) (c : Car) (at traversing : Bool) (next : StopOption) (o : Bool) → Fit c o
+    → Good i o (doorTurn i c at traversing next .car) (doorTurn i c at traversing next .words)
+unfolding processDoorCommands commandWords
+door-turn i low c at traversing next o f =
+    both (λ (t : Turn). Good i o (t .car) (t .words)) (c .enabled)
+    (after-good (words-told c at traversing i o (f .sound) (min (c .«command_count») 8))
+    (door-by i low c (f .tame) k next (k .phase) (k .door) o (work-sound c at traversing i o (f .sound) (min (c .«command_count») 8))))
+    (still i o c f)
+  where
+    k : Work
+    k = workTo c at traversing (min (c .«command_count») 8)
+
+pub door-good : (w : World) (i : ℕ) (o : Bool) → i < 16 → Fit (carAt (w .cars) i) o → Good i o (doorOf w i .car) (doorOf w i .words)
+unfolding doorOf
+door-good w i o low f = door-turn i low (carAt (w .cars) i) _ _ _ o f
+
+-- no turn of the doors moves a car
+closing-stands : (next : StopOption) (i : ℕ) (c : Car) (k : Work) (d : DoorState) → finishedClosing next i c k d .car .motion ≡ c .motion
+closing-stands NoStop i c k d = refl
+closing-stands (Stop s) i c k d = refl
+
+finish-stands : (t : DoorTransition) (p : ElevatorPhase) (d : DoorState) (i : ℕ) (c : Car) (k : Work) (next : StopOption)
+    → finishBy t p d i c k next .car .motion ≡ c .motion
+finish-stands None p d i c k next = refl
+finish-stands FinishedOpening p d i c k next = refl
+finish-stands FinishedOpen p d i c k next = refl
+finish-stands FinishedClosing p d i c k next = closing-stands next i c k d
+
+turn-stands : (i : ℕ) (c : Car) (at traversing : Bool) (next : StopOption) → doorTurn i c at traversing next .car .motion ≡ c .motion
+turn-stands i c at traversing next =
+    let k : Work = processDoorCommands c at traversing in
+    both (λ (t : Turn). t .car .motion ≡ c .motion) (c .enabled)
+    (both (λ (t : Turn). t .car .motion ≡ c .motion) (stays (k .phase) (k .door) c) refl
+    (finish-stands (tick (k .door) .transition) (k .phase) (tick (k .door) .door) i c k next))
+    refl
+
+pub door-stands : (w : World) (i : ℕ) → doorOf w i .car .motion ≡ carAt (w .cars) i .motion
+unfolding doorOf
+door-stands w i = turn-stands i (carAt (w .cars) i) _ _ _
