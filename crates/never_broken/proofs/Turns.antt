@@ -105,7 +105,7 @@ module _ (lines stops : ℕ) (c : Car) (h : CarIn lines stops c) where
         both Keeps (r .arrived) (arrived-in distance s (arrivalLamps kind work c))
         (pass-in distance (passedOver (spanOf kind (c .motion .position) (r .position)) positions n (Stop s)))
     move-in (Repositions s) distance work =
-        both Keeps (r .arrived) (repositioned-in _ s) (pass-in _ (passedOver (spanOf kind (c .motion .position) (r .position)) positions n (Stop s)))
+        both Keeps (r .arrived) (repositioned-in distance s) (pass-in distance (passedOver (spanOf kind (c .motion .position) (r .position)) positions n (Stop s)))
 
 -- ---- door commands
 
