@@ -49,6 +49,10 @@ pub record Small (w : World) : Type 0 where
   pub total : w .«total_moves» ≤ w .ticks * 1024
   pub counts : (i : ℕ) → i < w .«car_count» → carAt (w .cars) i .«move_count» ≤ w .ticks * 64
 
+pub record Sound (w : World) : Type 0 where
+  pub shape : Shape w
+  pub small : Small w
+
 -- what is read past the table's end is a car of line 0
 no-car-in : (lines stops : ℕ) → 0 < lines → CarIn lines stops noCar
 no-car-in lines stops l =
@@ -196,10 +200,7 @@ tick-ran w dt h =
       cars = omega (arith, d .cars, m .cars);
     }
 
-pub tick-shape : (w : World) (dt : Float) → Shape w → Shape (tickWorld w dt)
-tick-shape w dt h = tick-ran w dt h .shape
-
-pub tick-small : (w : World) (dt : Float) → w .ticks < 2 ^ 28 → Shape w → Small w → Small (tickWorld w dt)
+tick-small : (w : World) (dt : Float) → w .ticks < 2 ^ 28 → Shape w → Small w → Small (tickWorld w dt)
 unfolding NothingWraps
 tick-small w dt more h s = record {
   ticks = omega (arith, c .ticks);
@@ -213,3 +214,6 @@ tick-small w dt more h s = record {
       total = omega (arith, s .total, s .ticks);
       ticks = omega (arith, s .ticks);
     })
+
+pub tick-sound : (w : World) (dt : Float) → w .ticks < 2 ^ 28 → Sound w → Sound (tickWorld w dt)
+tick-sound w dt more h = record { shape = tick-ran w dt (h .shape) .shape; small = tick-small w dt more (h .shape) (h .small) }
