@@ -1,13 +1,13 @@
 -- Numbers that are loaded: laws of tables, of what a world names, of hall calls. Assumes nothing.
 use mathlib.Core.Path.{_≡_, refl}
-use mathlib.Core.Bool.{Bool, true, false, _||_, cond}
+use mathlib.Core.Bool.{Bool, true, false, _||_}
 use mathlib.Core.List.{List, [], _∷_}
-use Prim.Native.Nat.{ℕ, zero, suc, _+_, _-_, _^_, _<_, _≤_}
+use Prim.Native.Nat.{ℕ, zero, suc, _^_, _<_, _≤_}
 use native.Mathlib.Omega.{arith}
 use lib.Dec.{leb, ltb, eqb}
 use lib.ListN.{getD, set}
 use lib.Seq.{getD-set-other}
-use borrow.Author.Tests.{eqb-true, eqb-false, leb-false, le-ltb, ltb-false, lt-leb}
+use borrow.Author.Tests.{eqb-true, eqb-false, leb-false, lt-leb}
 use Rattle.world.specs.Sound.{anyTo, unloaded, stopUnloaded, carUnloaded, phaseUnloaded, riderPhaseUnloaded, lineBroken, riderBroken}
 use Rattle.world.specs.Calls.{called, pressed, cleared}
 use Rattle.world.specs.declared.Line.{Line}

@@ -1,13 +1,12 @@
 -- A car's turn in either system keeps its queues short and names what is loaded. Assumes nothing.
 use mathlib.Core.Path.{_≡_, refl}
-use mathlib.Core.Bool.{Bool, true, false, not, _&&_, _||_, cond}
+use mathlib.Core.Bool.{Bool, false, _&&_}
 use mathlib.Core.List.{List}
-use Prim.Native.Nat.{ℕ, zero, suc, _+_, _-_, _<_, _≤_, min}
+use Prim.Native.Nat.{ℕ, zero, suc, _<_, _≤_, min}
 use native.Mathlib.Omega.{arith}
-use lib.Dec.{ltb, eqb, leb}
-use lib.ListN.{getD, replicate}
+use lib.Dec.{ltb, eqb}
+use lib.ListN.{getD}
 use lib.Ieee.{Float}
-use borrow.Author.Tests.{leb-false, lt-leb, le-ltb}
 use Rattle.motion.specs.declared.movement.MovementResult.{MovementResult}
 use Rattle.door.specs.Door.{tick}
 use Rattle.door.specs.declared.DoorState.{DoorState}
@@ -37,7 +36,7 @@ use Rattle.trips.specs.declared.Trip.{Trip}
 use Rattle.trips.specs.declared.Trip.the-variants.{Rests, Drives, GoesTo, Repositions}
 use Rattle.movement_system.specs.Movement.{passedOver, passOf, repositionedOf, arrivedOf, turnBy}
 use Rattle.doors_system.specs.Commands.{applyOpen, applyClose, applyHold, applyCancelHold, tryApplyCommand, worked, queued, triedOn, workTo, processDoorCommands}
-use Rattle.doors_system.specs.Doors.{Turn, rests, rested, finishedClosing, finishBy, stays, doorBy, doorTurn}
+use Rattle.doors_system.specs.Doors.{Turn, rested, finishedClosing, finishBy, stays, doorBy, doorTurn}
 use Rattle.doors_system.specs.declared.commands.Tried.{Tried}
 use Rattle.doors_system.specs.declared.commands.Work.{Work}
 use Rattle.tick.proofs.Passed.{both}

@@ -1,12 +1,11 @@
 -- A sound world is not broken. Assumes nothing.
-use mathlib.Core.Path.{_≡_, refl}
-use mathlib.Core.Bool.{Bool, false, _||_}
-use Prim.Native.Nat.{ℕ, _*_, _^_, _<_, _≤_}
+use mathlib.Core.Path.{_≡_}
+use mathlib.Core.Bool.{false}
+use Prim.Native.Nat.{ℕ, _^_, _<_}
 use native.Mathlib.Omega.{arith}
-use lib.Dec.{leb, ltb}
 use lib.ListN.{getD}
 use borrow.Author.Tests.{le-ltb, lt-leb}
-use Rattle.world.specs.Sound.{anyTo, unloaded, lineBroken, carBroken, riderBroken, countsBroken, broken}
+use Rattle.world.specs.Sound.{unloaded, lineBroken, carBroken, riderBroken, countsBroken, broken}
 use Rattle.world.specs.World.{lineAt, carAt, riderAt}
 use Rattle.world.specs.declared.World.{World}
 use Rattle.world.specs.declared.Car.{Car}
@@ -31,12 +30,12 @@ counts-whole : (w : World) → Sound w → countsBroken w ≡ false
 unfolding countsBroken
 counts-whole w h =
     rw (
-      le-ltb 64 (w .«stop_count») (h .shape .stops),
-      le-ltb 8 (w .«line_count») (h .shape .lines),
-      le-ltb 16 (w .«car_count») (h .shape .cars),
-      le-ltb 128 (w .«rider_count») (h .shape .riders),
-      le-ltb (2 ^ 28) (w .ticks) (h .small .ticks),
-      lt-leb (2 ^ 48) (w .«total_moves») (omega (arith, h .small .total, h .small .ticks)),
+      le-ltb 64 (w .«stop_count») (h .shape .plan .low),
+      le-ltb 8 (w .«line_count») (h .shape .plan .few),
+      le-ltb 16 (w .«car_count») (h .shape .all .few),
+      le-ltb 128 (w .«rider_count») (h .shape .aboard .few),
+      le-ltb (2 ^ 28) (w .ticks) (h .counters .time),
+      lt-leb (2 ^ 48) (w .«total_moves») (omega (arith, h .counters .sum, h .counters .time)),
     )
 
 pub whole : (w : World) → Sound w → broken w ≡ false
@@ -44,13 +43,13 @@ unfolding broken
 whole w h =
     rw (
       counts-whole w h,
-      none-to (λ i. lineBroken (w .«stop_count») (lineAt (w .lines) i)) (w .«line_count») (h .shape .line),
+      none-to (λ i. lineBroken (w .«stop_count») (lineAt (w .lines) i)) (w .«line_count») (h .shape .plan .each),
       none-to (λ i. carBroken (w .«line_count») (w .«stop_count») (carAt (w .cars) i)) (w .«car_count») cars,
-      none-to (λ i. riderBroken (w .«stop_count») (w .«car_count») (riderAt (w .riders) i)) (w .«rider_count») (h .shape .rider),
-      lt-leb (2 ^ w .«stop_count») (w .«up_calls») (h .shape .up),
-      lt-leb (2 ^ w .«stop_count») (w .«down_calls») (h .shape .down),
+      none-to (λ i. riderBroken (w .«stop_count») (w .«car_count») (riderAt (w .riders) i)) (w .«rider_count») (h .shape .aboard .each),
+      lt-leb (2 ^ w .«stop_count») (w .«up_calls») (h .shape .calls .up),
+      lt-leb (2 ^ w .«stop_count») (w .«down_calls») (h .shape .calls .down),
     )
   where
     cars : (i : ℕ) → i < w .«car_count» → carBroken (w .«line_count») (w .«stop_count») (carAt (w .cars) i) ≡ false
     cars i l =
-        car-whole (w .«line_count») (w .«stop_count») (carAt (w .cars) i) (h .shape .car i l) (omega (arith, h .small .counts i l, h .small .ticks))
+        car-whole (w .«line_count») (w .«stop_count») (carAt (w .cars) i) (h .shape .all .each i l) (omega (arith, h .counters .each i l, h .counters .time))

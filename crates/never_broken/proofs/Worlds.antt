@@ -1,8 +1,8 @@
 -- A tick keeps what refusal 0 asks of a world. Assumes nothing.
 use mathlib.Core.Path.{_≡_, refl}
-use mathlib.Core.Bool.{Bool, false, cond}
+use mathlib.Core.Bool.{Bool, false}
 use mathlib.Core.List.{List}
-use Prim.Native.Nat.{ℕ, zero, suc, _+_, _*_, _^_, _<_, _≤_, min}
+use Prim.Native.Nat.{ℕ, zero, suc, _*_, _^_, _<_, _≤_, min}
 use native.Mathlib.Omega.{arith}
 use lib.ListN.{set}
 use lib.Ieee.{Float}
@@ -12,6 +12,7 @@ use Rattle.world.specs.declared.World.{World}
 use Rattle.world.specs.declared.Car.{Car}
 use Rattle.world.specs.declared.Line.{Line}
 use Rattle.world.specs.declared.LineKind.{LineKind}
+use Rattle.world.specs.declared.Rider.{Rider}
 use Rattle.world.specs.declared.StopOption.{StopOption}
 use Rattle.world.specs.declared.StopOption.the-variants.{NoStop, Stop}
 use Rattle.lookup.specs.Stops.{loopNextStopForCar}
@@ -24,7 +25,7 @@ use Rattle.movement_system.specs.Movement.{moveOf, moved}
 use Rattle.doors_system.specs.Commands.{atStop, hasRiderTraversing}
 use Rattle.doors_system.specs.Doors.{doorOf, doored, Standing, standing, carsOf, clears, clearOne, clearMatching, clearTo, openedOf, doorsWorld}
 use Rattle.tick.specs.Tick.{tickWorld}
-use Rattle.tick.specs.Counters.{Low, Counts, NothingWraps}
+use Rattle.tick.specs.Counters.{Counts, NothingWraps}
 use Rattle.tick.proofs.Passed.{both}
 use Rattle.tick.proofs.Proved.{nothing-wraps}
 use Rattle.never_broken.proofs.Numbers.{table-set, clear-most}
@@ -32,51 +33,72 @@ use Rattle.never_broken.proofs.Turns.{CarIn, move-in, door-in, next-in,
 
 -- ---- what refusal 0 asks, but for the counters
 
-pub record Shape (w : World) : Type 0 where
-  pub stops : w .«stop_count» ≤ 64
-  pub lines : w .«line_count» ≤ 8
-  pub cars : w .«car_count» ≤ 16
-  pub riders : w .«rider_count» ≤ 128
-  pub line : (i : ℕ) → i < w .«line_count» → lineBroken (w .«stop_count») (lineAt (w .lines) i) ≡ false
-  pub car : (i : ℕ) → i < w .«car_count» → CarIn (w .«line_count») (w .«stop_count») (carAt (w .cars) i)
-  pub rider : (i : ℕ) → i < w .«rider_count» → riderBroken (w .«stop_count») (w .«car_count») (riderAt (w .riders) i) ≡ false
-  pub up : w .«up_calls» < 2 ^ w .«stop_count»
-  pub down : w .«down_calls» < 2 ^ w .«stop_count»
+pub record PlanIn (stops lines : ℕ) (table : List Line) : Type 0 where
+  pub low : stops ≤ 64
+  pub few : lines ≤ 8
+  pub each : (i : ℕ) → i < lines → lineBroken stops (lineAt table i) ≡ false
+
+pub record CarsIn (lines stops cars : ℕ) (table : List Car) : Type 0 where
+  pub few : cars ≤ 16
+  pub each : (i : ℕ) → i < cars → CarIn lines stops (carAt table i)
+
+pub record RidersIn (stops cars riders : ℕ) (table : List Rider) : Type 0 where
+  pub few : riders ≤ 128
+  pub each : (i : ℕ) → i < riders → riderBroken stops cars (riderAt table i) ≡ false
+
+pub record CallsIn (stops ups downs : ℕ) : Type 0 where
+  pub up : ups < 2 ^ stops
+  pub down : downs < 2 ^ stops
+
+pub record Parts (stops lines cars riders ups downs : ℕ) (rows : List Line) (fleet : List Car) (people : List Rider) : Type 0 where
+  pub plan : PlanIn stops lines rows
+  pub all : CarsIn lines stops cars fleet
+  pub aboard : RidersIn stops cars riders people
+  pub calls : CallsIn stops ups downs
+
+abbrev pub Shape : World → Type 0
+Shape w =
+    Parts (w .«stop_count») (w .«line_count») (w .«car_count») (w .«rider_count») (w .«up_calls») (w .«down_calls») (w .lines) (w .cars) (w .riders)
 
 -- a tick has at most 64 moves a car, and there are 2 to the 28 of them
-pub record Small (w : World) : Type 0 where
-  pub ticks : w .ticks ≤ 2 ^ 28
-  pub total : w .«total_moves» ≤ w .ticks * 1024
-  pub counts : (i : ℕ) → i < w .«car_count» → carAt (w .cars) i .«move_count» ≤ w .ticks * 64
+pub record Counters (ticks total cars : ℕ) (table : List Car) : Type 0 where
+  pub time : ticks ≤ 2 ^ 28
+  pub sum : total ≤ ticks * 1024
+  pub each : (i : ℕ) → i < cars → carAt table i .«move_count» ≤ ticks * 64
 
 pub record Sound (w : World) : Type 0 where
   pub shape : Shape w
-  pub small : Small w
+  pub counters : Counters (w .ticks) (w .«total_moves») (w .«car_count») (w .cars)
+
+-- ---- a car is set: car i of n, m then
 
 -- what is read past the table's end is a car of line 0
 no-car-in : (lines stops : ℕ) → 0 < lines → CarIn lines stops noCar
 no-car-in lines stops l =
     record { commands = omega arith; line = l; phase = refl; target = refl; queue = record { few = omega arith; loaded = λ k m. absurd (omega arith) } }
 
-module _ (lines stops : ℕ) (c : Car) (new : CarIn lines stops c) where
-  -- the first m cars, with car i set
-  pub cars-set : (table : List Car) (i n m : ℕ) → ((j : ℕ) → j < n → CarIn lines stops (carAt table j)) → ((j : ℕ) → j < m → (j ≡ i → ⊥) → j < n) → (j : ℕ) → j < m
-      → CarIn lines stops (carAt (set table i c) j)
-  cars-set = table-set (CarIn lines stops) noCar c (no-car-in lines stops (omega (arith, new .line))) new
+module _ (c : Car) (table : List Car) (i n m : ℕ) (fits : (j : ℕ) → j < m → (j ≡ i → ⊥) → j < n) where
+  pub cars-set : (lines stops : ℕ) → m ≤ 16 → CarIn lines stops c → CarsIn lines stops n table → CarsIn lines stops m (set table i c)
+  cars-set lines stops few new h = record {
+    few = few;
+    each = table-set (CarIn lines stops) noCar c (no-car-in lines stops (omega (arith, new .line))) new table i n m (h .each) fits;
+  }
+
+  pub counters-set : (ticks total : ℕ) → c .«move_count» ≤ ticks * 64 → Counters ticks total n table → Counters ticks total m (set table i c)
+  counters-set ticks total new h = record {
+    time = h .time;
+    sum = h .sum;
+    each = table-set (λ (x : Car). x .«move_count» ≤ ticks * 64) noCar c (omega arith) new table i n m (h .each) fits;
+  }
 
 -- ---- a car's turn, and the cars' one after another
 
 step-shape : (w : World) (i : ℕ) (s : Step) → Shape w → CarIn (w .«line_count») (w .«stop_count») (s .car) → Shape (stepped w i s)
 step-shape w i s h new = record {
-  stops = h .stops;
-  lines = h .lines;
-  cars = h .cars;
-  riders = h .riders;
-  line = h .line;
-  car = cars-set (w .«line_count») (w .«stop_count») (s .car) new (w .cars) i (w .«car_count») (w .«car_count») (h .car) (λ j m e. m);
-  rider = h .rider;
-  up = h .up;
-  down = h .down;
+  plan = h .plan;
+  all = cars-set (s .car) (w .cars) i (w .«car_count») (w .«car_count») (λ j m e. m) (w .«line_count») (w .«stop_count») (h .all .few) new (h .all);
+  aboard = h .aboard;
+  calls = h .calls;
 }
 
 -- w after some turns
@@ -110,7 +132,7 @@ unfolding moveOf
 move-keeps dt w i h l =
     let c : Car = carAt (w .cars) i in
     let kind : LineKind = lineOf (w .lines) (c .line) .kind in
-    move-in (w .«line_count») (w .«stop_count») c (h .car i l) i kind (w .stops) (min (w .«stop_count») 64) (w .ticks) (w .«total_moves»)
+    move-in (w .«line_count») (w .«stop_count») c (h .all .each i l) i kind (w .stops) (min (w .«stop_count») 64) (w .ticks) (w .«total_moves»)
     (landing (tripOf c) kind (leaderOf kind (w .cars) (w .«car_count») i c) c (w .stops) dt) (tripOf c) (w .«reposition_distance»)
     (workOf (tripOf c) (w .riders) (w .«rider_count») c (w .stops) i)
 
@@ -119,9 +141,9 @@ unfolding doorOf
 door-keeps w i h l =
     let c : Car = carAt (w .cars) i in
     let line : Line = lineOf (w .lines) (c .line) in
-    door-in (w .«line_count») (w .«stop_count») i c (h .car i l) (atStop line (w .stops) (w .«stop_count») (c .motion .position))
+    door-in (w .«line_count») (w .«stop_count») i c (h .all .each i l) (atStop line (w .stops) (w .«stop_count») (c .motion .position))
     (hasRiderTraversing (w .riders) (w .«rider_count») i) (loopNextStopForCar line (w .stops) (c .motion .position))
-    (next-in (w .«stop_count») line (line-in (w .«stop_count») (w .lines) (c .line) (h .line (c .line) (h .car i l .line))) (w .stops) (c .motion .position))
+    (next-in (w .«stop_count») line (line-in (w .«stop_count») (w .lines) (c .line) (h .plan .each (c .line) (h .all .each i l .line))) (w .stops) (c .motion .position))
 
 moved-ran : (w : World) (dt : Float) → Shape w → Ran w (moved w dt .world)
 unfolding moved
@@ -162,15 +184,10 @@ doors-ran w h =
     record {
       shape =
           record {
-            stops = p .shape .stops;
-            lines = p .shape .lines;
-            cars = p .shape .cars;
-            riders = p .shape .riders;
-            line = p .shape .line;
-            car = p .shape .car;
-            rider = p .shape .rider;
-            up = rw (p .stops) (omega (arith, f .up, h .up));
-            down = rw (p .stops) (omega (arith, f .down, h .down));
+            plan = p .shape .plan;
+            all = p .shape .all;
+            aboard = p .shape .aboard;
+            calls = rw (p .stops) (record { up = omega (arith, f .up, h .calls .up); down = omega (arith, f .down, h .calls .down) });
           };
       stops = p .stops;
       cars = p .cars;
@@ -183,37 +200,29 @@ unfolding tickWorld
 tick-ran w dt h =
     let m : Ran w (moved w dt .world) = moved-ran w dt h in
     let d : Ran (moved w dt .world) (doorsWorld (moved w dt .world)) = doors-ran (moved w dt .world) (m .shape) in
-    record {
-      shape =
-          record {
-            stops = d .shape .stops;
-            lines = d .shape .lines;
-            cars = d .shape .cars;
-            riders = d .shape .riders;
-            line = d .shape .line;
-            car = d .shape .car;
-            rider = d .shape .rider;
-            up = d .shape .up;
-            down = d .shape .down;
-          };
-      stops = omega (arith, d .stops, m .stops);
-      cars = omega (arith, d .cars, m .cars);
-    }
-
-tick-small : (w : World) (dt : Float) → w .ticks < 2 ^ 28 → Shape w → Small w → Small (tickWorld w dt)
-unfolding NothingWraps
-tick-small w dt more h s = record {
-  ticks = omega (arith, c .ticks);
-  total = omega (arith, c .ticks, c .total, c .most, s .total);
-  counts = λ i l. let m : i < carsOf w = omega (arith, l, tick-ran w dt h .cars, h .cars) in omega (arith, c .ticks, c .cars i m, c .few i, s .counts i (omega arith));
-}
-  where
-    c : Counts w dt
-    c = nothing-wraps .1 w dt (record {
-      cars = λ i l. omega (arith, s .counts i (omega arith), s .ticks);
-      total = omega (arith, s .total, s .ticks);
-      ticks = omega (arith, s .ticks);
-    })
+    record { shape = d .shape; stops = omega (arith, d .stops, m .stops); cars = omega (arith, d .cars, m .cars) }
 
 pub tick-sound : (w : World) (dt : Float) → w .ticks < 2 ^ 28 → Sound w → Sound (tickWorld w dt)
-tick-sound w dt more h = record { shape = tick-ran w dt (h .shape) .shape; small = tick-small w dt more (h .shape) (h .small) }
+unfolding NothingWraps
+tick-sound w dt more h = record {
+  shape = r .shape;
+  counters =
+      record {
+        time = omega (arith, c .ticks);
+        sum = omega (arith, c .ticks, c .total, c .most, s .sum);
+        each = λ i l. let m : i < carsOf w = omega (arith, l, r .cars, h .shape .all .few) in omega (arith, c .ticks, c .cars i m, c .few i, s .each i (omega arith));
+      };
+}
+  where
+    r : Ran w (tickWorld w dt)
+    r = tick-ran w dt (h .shape)
+
+    s : Counters (w .ticks) (w .«total_moves») (w .«car_count») (w .cars)
+    s = h .counters
+
+    c : Counts w dt
+    c = nothing-wraps .1 w dt (record {
+      cars = λ i l. omega (arith, s .each i (omega arith), s .time);
+      total = omega (arith, s .sum, s .time);
+      ticks = omega (arith, s .time);
+    })
