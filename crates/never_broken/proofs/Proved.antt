@@ -25,13 +25,13 @@ pub never-broken : NeverBroken
 unfolding NeverBroken emptyWorld
 never-broken calls =
     unbroken _
-    (calls-sound calls _
+    (calls-sound _ _
     (record {
       shape =
           record {
             plan = record { low = omega arith; few = omega arith; each = λ i l. absurd (omega arith) };
-            all = record { few = omega arith; each = λ i l. absurd (omega arith) };
-            aboard = record { few = omega arith; each = λ i l. absurd (omega arith) };
+            cars = record { few = omega arith; each = λ i l. absurd (omega arith) };
+            riders = record { few = omega arith; each = λ i l. absurd (omega arith) };
             calls = record { up = omega arith; down = omega arith };
           };
       counters = record { time = omega arith; sum = omega arith; each = λ i l. absurd (omega arith) };

@@ -121,8 +121,8 @@ module _ (w : World) (h : Sound w) (log : List ℕ) (used : ℕ) where
                         table-set (λ (l : Line). lineBroken (w .«stop_count») l ≡ false) noLine row refl (q .1 .1 .0) (w .lines) number (w .«line_count») (number + 1)
                         (h .shape .plan .each) (λ j m e. omega (arith, e, n .1));
                   };
-              all = cars-stay (w .«line_count») (number + 1) (w .«stop_count») (w .«stop_count») (omega (arith, n .1)) (omega arith) (h .shape .all);
-              aboard = h .shape .aboard;
+              cars = cars-stay (w .«line_count») (number + 1) (w .«stop_count») (w .«stop_count») (omega (arith, n .1)) (omega arith) (h .shape .cars);
+              riders = h .shape .riders;
               calls = h .shape .calls;
             };
       })
@@ -147,8 +147,8 @@ module _ (w : World) (h : Sound w) (log : List ℕ) (used : ℕ) where
                     few = h .shape .plan .few;
                     each = λ i l. line-stays (w .«stop_count») (number + 1) more (lineAt (w .lines) i) (h .shape .plan .each i l);
                   };
-              all = cars-stay (w .«line_count») (w .«line_count») (w .«stop_count») (number + 1) (omega arith) more (h .shape .all);
-              aboard = riders-stay (w .«stop_count») (number + 1) (w .«car_count») (w .«car_count») more (omega arith) (h .shape .aboard);
+              cars = cars-stay (w .«line_count») (w .«line_count») (w .«stop_count») (number + 1) (omega arith) more (h .shape .cars);
+              riders = riders-stay (w .«stop_count») (number + 1) (w .«car_count») (w .«car_count») more (omega arith) (h .shape .riders);
               calls = record { up = omega (arith, h .shape .calls .up, room); down = omega (arith, h .shape .calls .down, room) };
             };
       })
@@ -164,10 +164,10 @@ module _ (w : World) (h : Sound w) (log : List ℕ) (used : ℕ) where
         shape =
             record {
               plan = h .shape .plan;
-              all =
+              cars =
                   cars-set new (w .cars) number (w .«car_count») (number + 1) fits (w .«line_count») (w .«stop_count») (omega (arith, n .0))
-                  (new-in (leb-false (w .«line_count») line (q .1 .1 .0))) (h .shape .all);
-              aboard = riders-stay (w .«stop_count») (w .«stop_count») (w .«car_count») (number + 1) (omega arith) (omega (arith, n .1)) (h .shape .aboard);
+                  (new-in (leb-false (w .«line_count») line (q .1 .1 .0))) (h .shape .cars);
+              riders = riders-stay (w .«stop_count») (w .«stop_count») (w .«car_count») (number + 1) (omega arith) (omega (arith, n .1)) (h .shape .riders);
               calls = h .shape .calls;
             };
       })
@@ -189,13 +189,13 @@ module _ (w : World) (h : Sound w) (log : List ℕ) (used : ℕ) where
         shape =
             record {
               plan = h .shape .plan;
-              all = h .shape .all;
-              aboard =
+              cars = h .shape .cars;
+              riders =
                   record {
-                    few = both (λ (x : ℕ). x ≤ 128) (eqb number (w .«rider_count»)) (omega (arith, n)) (h .shape .aboard .few);
+                    few = both (λ (x : ℕ). x ≤ 128) (eqb number (w .«rider_count»)) (omega (arith, n)) (h .shape .riders .few);
                     each =
                         table-set (λ (r : Rider). riderBroken (w .«stop_count») (w .«car_count») r ≡ false) noRider rider refl (q .1 .0) (w .riders) number
-                        (w .«rider_count») (countWith (w .«rider_count») number) (h .shape .aboard .each) old;
+                        (w .«rider_count») (countWith (w .«rider_count») number) (h .shape .riders .each) old;
                   };
               calls = h .shape .calls;
             };
@@ -223,8 +223,8 @@ module _ (w : World) (h : Sound w) (log : List ℕ) (used : ℕ) where
         shape =
             record {
               plan = h .shape .plan;
-              all = h .shape .all;
-              aboard = h .shape .aboard;
+              cars = h .shape .cars;
+              riders = h .shape .riders;
               calls =
                   record {
                     up = both (λ (x : ℕ). x < 2 ^ w .«stop_count») down (h .shape .calls .up) (press (w .«up_calls») (h .shape .calls .up));
@@ -243,10 +243,10 @@ module _ (w : World) (h : Sound w) (log : List ℕ) (used : ℕ) where
         shape =
             record {
               plan = h .shape .plan;
-              all =
-                  cars-set c (w .cars) i (w .«car_count») (w .«car_count») (λ j m e. m) (w .«line_count») (w .«stop_count») (h .shape .all .few)
-                  (f (h .shape .all .each i l)) (h .shape .all);
-              aboard = h .shape .aboard;
+              cars =
+                  cars-set c (w .cars) i (w .«car_count») (w .«car_count») (λ j m e. m) (w .«line_count») (w .«stop_count») (h .shape .cars .few)
+                  (f (h .shape .cars .each i l)) (h .shape .cars);
+              riders = h .shape .riders;
               calls = h .shape .calls;
             };
       }

@@ -32,8 +32,8 @@ counts-whole w h =
     rw (
       le-ltb 64 (w .«stop_count») (h .shape .plan .low),
       le-ltb 8 (w .«line_count») (h .shape .plan .few),
-      le-ltb 16 (w .«car_count») (h .shape .all .few),
-      le-ltb 128 (w .«rider_count») (h .shape .aboard .few),
+      le-ltb 16 (w .«car_count») (h .shape .cars .few),
+      le-ltb 128 (w .«rider_count») (h .shape .riders .few),
       le-ltb (2 ^ 28) (w .ticks) (h .counters .time),
       lt-leb (2 ^ 48) (w .«total_moves») (omega (arith, h .counters .sum, h .counters .time)),
     )
@@ -45,11 +45,11 @@ whole w h =
       counts-whole w h,
       none-to (λ i. lineBroken (w .«stop_count») (lineAt (w .lines) i)) (w .«line_count») (h .shape .plan .each),
       none-to (λ i. carBroken (w .«line_count») (w .«stop_count») (carAt (w .cars) i)) (w .«car_count») cars,
-      none-to (λ i. riderBroken (w .«stop_count») (w .«car_count») (riderAt (w .riders) i)) (w .«rider_count») (h .shape .aboard .each),
+      none-to (λ i. riderBroken (w .«stop_count») (w .«car_count») (riderAt (w .riders) i)) (w .«rider_count») (h .shape .riders .each),
       lt-leb (2 ^ w .«stop_count») (w .«up_calls») (h .shape .calls .up),
       lt-leb (2 ^ w .«stop_count») (w .«down_calls») (h .shape .calls .down),
     )
   where
     cars : (i : ℕ) → i < w .«car_count» → carBroken (w .«line_count») (w .«stop_count») (carAt (w .cars) i) ≡ false
     cars i l =
-        car-whole (w .«line_count») (w .«stop_count») (carAt (w .cars) i) (h .shape .all .each i l) (omega (arith, h .counters .each i l, h .counters .time))
+        car-whole (w .«line_count») (w .«stop_count») (carAt (w .cars) i) (h .shape .cars .each i l) (omega (arith, h .counters .each i l, h .counters .time))

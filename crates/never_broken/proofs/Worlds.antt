@@ -50,11 +50,11 @@ pub record CallsIn (stops ups downs : ℕ) : Type 0 where
   pub up : ups < 2 ^ stops
   pub down : downs < 2 ^ stops
 
-pub record Parts (stops lines cars riders ups downs : ℕ) (rows : List Line) (fleet : List Car) (people : List Rider) : Type 0 where
-  pub plan : PlanIn stops lines rows
-  pub all : CarsIn lines stops cars fleet
-  pub aboard : RidersIn stops cars riders people
-  pub calls : CallsIn stops ups downs
+pub record Parts (stopCount lineCount carCount riderCount ups downs : ℕ) (rows : List Line) (fleet : List Car) (people : List Rider) : Type 0 where
+  pub plan : PlanIn stopCount lineCount rows
+  pub cars : CarsIn lineCount stopCount carCount fleet
+  pub riders : RidersIn stopCount carCount riderCount people
+  pub calls : CallsIn stopCount ups downs
 
 abbrev pub Shape : World → Type 0
 Shape w =
@@ -96,8 +96,8 @@ module _ (c : Car) (table : List Car) (i n m : ℕ) (fits : (j : ℕ) → j < m 
 step-shape : (w : World) (i : ℕ) (s : Step) → Shape w → CarIn (w .«line_count») (w .«stop_count») (s .car) → Shape (stepped w i s)
 step-shape w i s h new = record {
   plan = h .plan;
-  all = cars-set (s .car) (w .cars) i (w .«car_count») (w .«car_count») (λ j m e. m) (w .«line_count») (w .«stop_count») (h .all .few) new (h .all);
-  aboard = h .aboard;
+  cars = cars-set (s .car) (w .cars) i (w .«car_count») (w .«car_count») (λ j m e. m) (w .«line_count») (w .«stop_count») (h .cars .few) new (h .cars);
+  riders = h .riders;
   calls = h .calls;
 }
 
@@ -132,7 +132,7 @@ unfolding moveOf
 move-keeps dt w i h l =
     let c : Car = carAt (w .cars) i in
     let kind : LineKind = lineOf (w .lines) (c .line) .kind in
-    move-in (w .«line_count») (w .«stop_count») c (h .all .each i l) i kind (w .stops) (min (w .«stop_count») 64) (w .ticks) (w .«total_moves»)
+    move-in (w .«line_count») (w .«stop_count») c (h .cars .each i l) i kind (w .stops) (min (w .«stop_count») 64) (w .ticks) (w .«total_moves»)
     (landing (tripOf c) kind (leaderOf kind (w .cars) (w .«car_count») i c) c (w .stops) dt) (tripOf c) (w .«reposition_distance»)
     (workOf (tripOf c) (w .riders) (w .«rider_count») c (w .stops) i)
 
@@ -141,9 +141,9 @@ unfolding doorOf
 door-keeps w i h l =
     let c : Car = carAt (w .cars) i in
     let line : Line = lineOf (w .lines) (c .line) in
-    door-in (w .«line_count») (w .«stop_count») i c (h .all .each i l) (atStop line (w .stops) (w .«stop_count») (c .motion .position))
+    door-in (w .«line_count») (w .«stop_count») i c (h .cars .each i l) (atStop line (w .stops) (w .«stop_count») (c .motion .position))
     (hasRiderTraversing (w .riders) (w .«rider_count») i) (loopNextStopForCar line (w .stops) (c .motion .position))
-    (next-in (w .«stop_count») line (line-in (w .«stop_count») (w .lines) (c .line) (h .plan .each (c .line) (h .all .each i l .line))) (w .stops) (c .motion .position))
+    (next-in (w .«stop_count») line (line-in (w .«stop_count») (w .lines) (c .line) (h .plan .each (c .line) (h .cars .each i l .line))) (w .stops) (c .motion .position))
 
 moved-ran : (w : World) (dt : Float) → Shape w → Ran w (moved w dt .world)
 unfolding moved
@@ -185,8 +185,8 @@ doors-ran w h =
       shape =
           record {
             plan = p .shape .plan;
-            all = p .shape .all;
-            aboard = p .shape .aboard;
+            cars = p .shape .cars;
+            riders = p .shape .riders;
             calls = rw (p .stops) (record { up = omega (arith, f .up, h .calls .up); down = omega (arith, f .down, h .calls .down) });
           };
       stops = p .stops;
@@ -210,7 +210,7 @@ tick-sound w dt more h = record {
       record {
         time = omega (arith, c .ticks);
         sum = omega (arith, c .ticks, c .total, c .most, s .sum);
-        each = λ i l. let m : i < carsOf w = omega (arith, l, r .cars, h .shape .all .few) in omega (arith, c .ticks, c .cars i m, c .few i, s .each i (omega arith));
+        each = λ i l. let m : i < carsOf w = omega (arith, l, r .cars, h .shape .cars .few) in omega (arith, c .ticks, c .cars i m, c .few i, s .each i (omega arith));
       };
 }
   where
