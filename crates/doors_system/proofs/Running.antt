@@ -1,33 +1,47 @@
 -- The cars' turns: what a turn of the code is in the world so far. Assumes nothing.
-use mathlib.Core.Path.{_≡_}
-use mathlib.Core.Bool.{Bool}
+use mathlib.Core.Path.{_≡_, refl, sym, ap, _∙_}
+use mathlib.Core.Bool.{Bool, true, false, not, _&&_, _||_, cond, true≢false}
 use mathlib.Core.Logic.{_⊎_, ⊎-elim}
-use mathlib.Core.List.{List}
-use Prim.Native.Nat.{ℕ, _+_}
+use mathlib.Core.List.{List, []}
+use Prim.Native.Nat.{ℕ, zero, suc, _+_, _<_, _≤_}
 use native.Mathlib.Numerals.{add-one}
-use lib.ListN.{set}
-use Rattle.world.specs.World.{carAt}
-use Rattle.world.specs.With.{withPeople}
+use native.Mathlib.Omega.{arith}
+use lib.Dec.{eqb}
+use lib.ListN.{getD, set, getD-replicate}
+use lib.Seq.{getD-set-other, set-getD}
+use borrow.Author.Tests.{eqb-true}
+use Rattle.world.specs.World.{carAt, noCar}
+use Rattle.world.specs.With.{withCars, withPeople}
 use Rattle.world.specs.declared.World.{World}
 use Rattle.world.specs.declared.Car.{Car}
 use Rattle.world.specs.declared.Line.{Line}
 use Rattle.world.specs.declared.StopOption.{StopOption}
 use Rattle.lookup.specs.Stops.{loopNextStopForCar}
 use Rattle.log.specs.Log.{Wrote}
-use Rattle.log.proofs.Writing.{also}
-use Rattle.steps.specs.Steps.{Step, lineOf, stepOf, stepped, runTo, runCars}
+use Rattle.log.proofs.Writing.{wrote-none, also}
+use Rattle.steps.specs.Steps.{Step, lineOf, lampsOf, withDoor, notOpened, stepOf, stepped, runTo, runCars}
 use Rattle.steps.specs.declared.JustOpened.{JustOpened}
-use Rattle.doors_system.specs.Commands.{atStop, hasRiderTraversing}
-use Rattle.doors_system.specs.Doors.{Turn, Turns, doorTurn, turnOn, stepBy, doorOf, Clears, clearTo, clearWordsTo, doored, standing, carsOf, doorsWorld, doorsWords}
+use Rattle.doors_system.specs.Commands.{atStop, hasRiderTraversing, unworked, processDoorCommands, commandWords}
+use Rattle.doors_system.specs.Doors.{Turn, turned, rested, stays, Turns, turnBy, doorTurn, hasTurn, turnOn, stepBy, doorOf, Clears, clearTo, clearWordsTo, doored, standing, carsOf, doorsWorld, doorsWords}
+use Rattle.doors_system.specs.declared.commands.Work.{Work}
 use Rattle.doors_system.specs.declared.Turned.{Turned}
 use Rattle.doors_system.specs.declared.calls.Calls.{Calls}
-use Rattle.doors_system.proofs.Working.{same-work, same-words}
+use Rattle.doors_system.proofs.Working.{no-work, no-words}
 
 -- the first i cars' turns made by code: the world, the doors just opened, and what was written
 pub record Runs (turn : World → ℕ → Step) (world : World) (l : List ℕ) (at i : ℕ) (w : World) (opened : List JustOpened) (l′ : List ℕ) (to : ℕ) : Type 0 where
   pub left : w ≡ runTo turn world i .world
   pub opens : opened ≡ runTo turn world i .opened
   pub wrote : Wrote l at (runTo turn world i .words) l′ to
+
+-- the same under other names
+pub same : {turn : World → ℕ → Step} {world w v : World} {l l′ m : List ℕ} {at i to b : ℕ} {opened os : List JustOpened} → Runs turn world l at i w opened l′ to
+    → m ≡ l′
+    → v ≡ w
+    → os ≡ opened
+    → b ≡ to
+    → Runs turn world l at i v os m b
+same k e f g h = record { left = f ∙ k .left; opens = g ∙ k .opens; wrote = rw (e, h) (k .wrote) }
 
 -- a turn more
 pub more : {turn : World → ℕ → Step} {world w : World} {l l′ l″ : List ℕ} {at i to b : ℕ} {opened : List JustOpened} (s : Step)
@@ -42,14 +56,15 @@ module _ {l l′ : List ℕ} {at : ℕ} {r : Turned} where
   -- who stands on the threshold matters only to a command
   asked : (i : ℕ) (c : Car) (a traversing u : Bool) (next : StopOption) → (c .«command_count» ≡ 0) ⊎ (traversing ≡ u) → Turns (doorTurn i c a traversing next) l at l′ r
       → Turns (doorTurn i c a u next) l at l′ r
-  asked i c a traversing u next k h = ⊎-elim (λ e. rw (same-work c a u traversing e, same-words c a u traversing i e) h) (λ e. rw (← e) h) k
+  asked i c a traversing u next k h =
+      ⊎-elim (λ e. rw (no-work c a u e, no-words c a u i e) (rw (no-work c a traversing e, no-words c a traversing i e) at h)) (λ e. rw (← e) h) k
 
   -- by the line that was read, and by who was found on the threshold, if anybody was looked for
-  pub turn-on : (w : World) (i : ℕ) (c : Car) (lines : List Line) (line : Line) (traversing : Bool) → w .lines ≡ lines → line ≡ lineOf lines (c .line)
+  pub turn-on : (w : World) (i : ℕ) (c : Car) (line : Line) (traversing : Bool) → line ≡ lineOf (w .lines) (c .line)
       → (c .«command_count» ≡ 0) ⊎ (traversing ≡ hasRiderTraversing (w .riders) (w .«rider_count») i)
       → Turns (doorTurn i c (atStop line (w .stops) (w .«stop_count») (c .motion .position)) traversing (loopNextStopForCar line (w .stops) (c .motion .position))) l at l′ r
       → Turns (turnOn w i c (lineOf (w .lines) (c .line))) l at l′ r
-  turn-on w i c lines line traversing e f k h = asked i c _ traversing _ _ k (rw (f, ← e) at h)
+  turn-on w i c line traversing f k h = asked i c _ traversing _ _ k (rw f at h)
 
   -- it is the car's turn
   by : (w : World) (t : Turn) → Turns t l at l′ r → stepBy w t ≡ stepOf w (r .car) (t .words) (r .opened)
@@ -59,6 +74,63 @@ module _ {l l′ : List ℕ} {at : ℕ} {r : Turned} where
       → doorOf w i ≡ stepOf w (r .car) (turnOn w i (carAt (w .cars) i) (lineOf (w .lines) (carAt (w .cars) i .line)) .words) (r .opened)
   unfolding doorOf
   door-of w i h = by w _ h
+
+-- ---- a car without a turn is left as it is
+
+-- behind a test that a car without a turn does not pass, or passes to no avail
+quiet : {t u : Turn} (enabled none stays : Bool) → (enabled && (not none || not stays)) ≡ false → (none ≡ true → stays ≡ true → t ≡ u) → cond enabled t u ≡ u
+quiet false none stays h f = refl
+quiet true true true h f = f refl refl
+quiet true true false h f = absurd (true≢false h)
+quiet true false stays h f = absurd (true≢false h)
+
+-- a car with a turn is enabled
+both : (a b : Bool) → (a && b) ≡ true → a ≡ true
+both true b h = refl
+both false b h = h
+
+pub is-enabled : (c : Car) → hasTurn c ≡ true → c .enabled ≡ true
+is-enabled c h = both (c .enabled) (not (eqb (c .«command_count») 0) || not (stays (c .phase) (c .door) c)) h
+
+-- a car with its own number of commands
+as-it-is : (c : Car) (n : ℕ) → n ≡ c .«command_count» → withDoor c (c .phase) (c .door) (c .«target_stop») (lampsOf c) (c .«going_forward») (c .«door_command_queue») n ≡ c
+as-it-is c n e = ap (λ (m : ℕ). withDoor c (c .phase) (c .door) (c .«target_stop») (lampsOf c) (c .«going_forward») (c .«door_command_queue») m) e
+
+resting : (i : ℕ) (c : Car) (k : Work) (words : List ℕ) (next : StopOption) → k ≡ unworked c → words ≡ [] → stays (c .phase) (c .door) c ≡ true
+    → turnBy i c k words next ≡ turned (rested c (unworked c) (c .phase) (c .door)) [] notOpened
+resting i c k words next e f s = rw (e, f, s)
+
+still : (i : ℕ) (c : Car) (a traversing : Bool) (next : StopOption) → hasTurn c ≡ false → doorTurn i c a traversing next ≡ turned c [] notOpened
+still i c a traversing next h =
+    quiet (c .enabled) (eqb (c .«command_count») 0) (stays (c .phase) (c .door) c) h
+    (λ n s. let e = eqb-true (c .«command_count») 0 n in
+    resting i c (processDoorCommands c a traversing) (commandWords c a traversing i) next (no-work c a traversing e) (no-words c a traversing i e) s
+    ∙ ap (λ (d : Car). turned d [] notOpened) (as-it-is c 0 (sym e)))
+
+still-of : (w : World) (i : ℕ) → hasTurn (carAt (w .cars) i) ≡ false → doorOf w i ≡ stepOf w (carAt (w .cars) i) [] notOpened
+unfolding doorOf
+still-of w i h = ap (stepBy w) (still i (carAt (w .cars) i) _ _ _ h)
+
+-- nothing has opened where no car has had its turn
+unopened : (turn : World → ℕ → Step) (w : World) (i j : ℕ) → i ≤ j → j < 16 → getD (runTo turn w i .opened) j notOpened ≡ notOpened
+unfolding runTo
+unopened turn w zero j h b = getD-replicate 16 j notOpened notOpened b
+unopened turn w (suc i) j h b =
+    getD-set-other (runTo turn w i .opened) i j (turn (runTo turn w i .world) i .opened) notOpened (λ (e : j ≡ i). omega (arith, e))
+    ∙ unopened turn w i j (omega arith) b
+
+stepped-same : (w : World) (i : ℕ) → w ≡ stepped w i (stepOf w (carAt (w .cars) i) [] notOpened)
+stepped-same w i = ap (λ (cars : List Car). withCars w cars (w .«car_count»)) (sym (set-getD (w .cars) i noCar))
+
+opened-same : (os : List JustOpened) (i : ℕ) → getD os i notOpened ≡ notOpened → os ≡ set os i notOpened
+opened-same os i e = sym (set-getD os i notOpened) ∙ ap (set os i) e
+
+pub passed : {world w : World} {l l′ : List ℕ} {at i to : ℕ} {opened : List JustOpened} → Runs doorOf world l at i w opened l′ to → i < 16
+    → hasTurn (carAt (w .cars) i) ≡ false
+    → Runs doorOf world l at (i + 1) w opened l′ to
+passed {world = world} {w = w} {i = i} {opened = opened} k b h =
+    same (more (stepOf w (carAt (w .cars) i) [] notOpened) k (still-of w i h) wrote-none) refl (stepped-same w i)
+    (opened-same opened i (ap (λ (os : List JustOpened). getD os i notOpened) (k .opens) ∙ unopened doorOf world i i (omega arith) b)) refl
 
 -- all cars' turns, then the hall calls
 pub ended : {world w : World} {l l′ l″ : List ℕ} {at to : ℕ} {opened : List JustOpened} {r : Calls} → Runs doorOf world l at (carsOf world) w opened l′ to

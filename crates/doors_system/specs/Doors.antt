@@ -3,6 +3,7 @@ use mathlib.Core.Path.{_≡_}
 use mathlib.Core.Bool.{Bool, true, false, not, _&&_, _||_, cond}
 use mathlib.Core.List.{List, [], _∷_, _++_}
 use Prim.Native.Nat.{ℕ, zero, suc, min}
+use lib.Dec.{eqb}
 use lib.ListN.{getD}
 use Rattle.door.specs.Door.{isClosed, isOpen, tick}
 use Rattle.door.specs.declared.DoorState.{DoorState}
@@ -114,6 +115,10 @@ turnBy i c k words next = after words (doorBy (k .phase) (k .door) i c k next)
 abbrev pub doorTurn : ℕ → Car → Bool → Bool → StopOption → Turn
 doorTurn i c atStop traversing next =
     cond (c .enabled) (turnBy i c (processDoorCommands c atStop traversing) (commandWords c atStop traversing i) next) (turned c [] notOpened)
+
+-- whether the turn may change anything: not of a disabled car, nor without a command where the door's tick is left out
+abbrev pub hasTurn : Car → Bool
+hasTurn c = c .enabled && (not (eqb (c .«command_count») 0) || not (stays (c .phase) (c .door) c))
 
 -- the turn of a car on its line
 abbrev pub turnOn : World → ℕ → Car → Line → Turn

@@ -53,12 +53,13 @@ lineChecks w number row =
     ∷ check NotLoaded (lineBroken (w .«stop_count») row)
     ∷ []
 
+abbrev pub withLine : World → ℕ → Line → World
+withLine w number row = withPlan w (w .stops) (w .«stop_count») (set (w .lines) number row) (number + 1) (w .started)
+
 unfoldable pub loadLine : World → ℕ → LineKind → Bool → ℕ → List ℕ → Changed
 loadLine w number kind listed count serves =
-    unless
-    (lineChecks w number (lineRow kind listed count serves))
-    w
-    (withPlan w (w .stops) (w .«stop_count») (set (w .lines) number (lineRow kind listed count serves)) (number + 1) (w .started))
+    let row = lineRow kind listed count serves in
+    unless (lineChecks w number row) w (withLine w number row)
 
 -- 2 stop
 abbrev pub stopChecks : World → ℕ → List Check
@@ -67,12 +68,11 @@ stopChecks w number =
     ∷ check NotNext (notNext 64 (w .«stop_count») number)
     ∷ []
 
+abbrev pub withStop : World → ℕ → Float → World
+withStop w number position = withPlan w (set (w .stops) number position) (number + 1) (w .lines) (w .«line_count») (w .started)
+
 unfoldable pub loadStop : World → ℕ → Float → Changed
-loadStop w number position =
-    unless
-    (stopChecks w number)
-    w
-    (withPlan w (set (w .stops) number position) (number + 1) (w .lines) (w .«line_count») (w .started))
+loadStop w number position = unless (stopChecks w number) w (withStop w number position)
 
 -- 3 car
 abbrev pub carChecks : World → ℕ → ℕ → List Check
@@ -84,10 +84,7 @@ carChecks w number line =
 
 unfoldable pub loadCar : World → ℕ → ℕ → Motion → ℕ → ℕ → Changed
 loadCar w number line motion transition opening =
-    unless
-    (carChecks w number line)
-    w
-    (withCars w (set (w .cars) number (newCar line motion transition opening)) (number + 1))
+    unless (carChecks w number line) w (withCars w (set (w .cars) number (newCar line motion transition opening)) (number + 1))
 
 -- the count of riders once this number is loaded: one more where it is new
 abbrev pub countWith : ℕ → ℕ → ℕ
@@ -100,16 +97,19 @@ riderChecks w number rider =
     ∷ check NotLoaded (riderBroken (w .«stop_count») (w .«car_count») rider)
     ∷ []
 
+abbrev pub withRider : World → ℕ → Rider → World
+withRider w number rider =
+    withPeople w (set (w .riders) number rider) (countWith (w .«rider_count») number) (w .«up_calls») (w .«down_calls»)
+
 unfoldable pub loadRider : World → ℕ → Rider → Changed
-loadRider w number rider =
-    unless
-    (riderChecks w number rider)
-    w
-    (withPeople w (set (w .riders) number rider) (countWith (w .«rider_count») number) (w .«up_calls») (w .«down_calls»))
+loadRider w number rider = unless (riderChecks w number rider) w (withRider w number rider)
 
 -- D start
 abbrev pub startChecks : World → List Check
 startChecks w = check NotNow (w .started) ∷ []
 
+abbrev pub withStart : World → World
+withStart w = withPlan w (w .stops) (w .«stop_count») (w .lines) (w .«line_count») true
+
 unfoldable pub start : World → Changed
-start w = unless (startChecks w) w (withPlan w (w .stops) (w .«stop_count») (w .lines) (w .«line_count») true)
+start w = unless (startChecks w) w (withStart w)

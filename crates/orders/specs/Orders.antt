@@ -98,12 +98,14 @@ callChecks w stop =
     ∷ check NotLoaded (unloaded (w .«stop_count») stop)
     ∷ []
 
+abbrev pub withCall : World → ℕ → Bool → World
+withCall w stop down =
+    withPeople w (w .riders) (w .«rider_count»)
+    (cond down (w .«up_calls») (pressed (w .«up_calls») stop))
+    (cond down (pressed (w .«down_calls») stop) (w .«down_calls»))
+
 unfoldable pub pressHallCall : World → ℕ → Bool → Changed
-pressHallCall w stop down =
-    unless
-    (callChecks w stop)
-    w
-    (withPeople w (w .riders) (w .«rider_count») (cond down (w .«up_calls») (pressed (w .«up_calls») stop)) (cond down (pressed (w .«down_calls») stop) (w .«down_calls»)))
+pressHallCall w stop down = unless (callChecks w stop) w (withCall w stop down)
 
 -- A destination, appended to the car's destination queue
 abbrev pub destined : Car → ℕ → Car

@@ -5,7 +5,7 @@ use mathlib.Core.Bool.{Bool, true, false, cond}
 use mathlib.Core.List.{List, [], _∷_, _++_}
 use Prim.Native.Nat.{ℕ, _<_, _≤_}
 use lib.Dec.{eqb}
-use lib.ListN.{length, getD, drop}
+use lib.ListN.{length, getD}
 use Rattle.world.specs.Sound.{broken}
 use Rattle.world.specs.Refusal.{Check, check}
 use Rattle.world.specs.declared.World.{World}
@@ -21,28 +21,27 @@ use Rattle.loads.specs.Loads.{lineRow, lineChecks, stopChecks, carChecks, rider
 use Rattle.orders.specs.Orders.{sendChecks, orderChecks, commandChecks, callChecks, destinationChecks}
 use Rattle.record.specs.declared.Answer.{Answer}
 use Rattle.record.specs.declared.Answer.the-variants.{Accepted, Refused}
-use Rattle.record.specs.Record.{isAccepted, usedOf, writtenOf, tickChecks, recordOf}
+use Rattle.record.specs.Record.{Outcome, isAccepted, usedOf, writtenOf, tickChecks, recordOf}
 
 -- ---- the first condition
 
--- what any call with any world, words and log gives
-pub record Kept (w : World) (words lent : List ℕ) : Type 0 where
+-- what a call with this world, these words and this log gives
+pub record Kept (w : World) (words lent : List ℕ) (o : Outcome) : Type 0 where
   -- "A refused record leaves the world and every word of the lent log as it found them."
-  pub world : isAccepted (recordOf w words lent .answer) ≡ false → recordOf w words lent .world ≡ w
-  pub log : isAccepted (recordOf w words lent .answer) ≡ false → recordOf w words lent .log ≡ lent
+  pub world : isAccepted (o .answer) ≡ false → o .world ≡ w
+  pub log : isAccepted (o .answer) ≡ false → o .log ≡ lent
   -- the log keeps its length, and "later words stay"
-  pub size : length (recordOf w words lent .log) ≡ length lent
-  pub later : drop (writtenOf (recordOf w words lent .answer)) (recordOf w words lent .log) ≡ drop (writtenOf (recordOf w words lent .answer)) lent
-  -- the words that the answer counts are there
-  pub used : usedOf (recordOf w words lent .answer) ≤ length words
-  pub written : writtenOf (recordOf w words lent .answer) ≤ length lent
-  -- an accepted record takes words
-  pub some : isAccepted (recordOf w words lent .answer) ≡ true → 0 < usedOf (recordOf w words lent .answer)
-  -- "0 except on ticks"
-  pub untouched : eqb (kindOf (getD words 0 0)) 12 ≡ false → recordOf w words lent .log ≡ lent
+  pub size : length (o .log) ≡ length lent
+  pub later : (i : ℕ) → writtenOf (o .answer) ≤ i → getD (o .log) i 0 ≡ getD lent i 0
+  -- the words that the answer counts are there, and an accepted record takes some
+  pub used : usedOf (o .answer) ≤ length words
+  pub some : isAccepted (o .answer) ≡ true → 0 < usedOf (o .answer)
+  pub written : writtenOf (o .answer) ≤ length lent
+  -- "0 except on ticks": any other kind leaves the log
+  pub untouched : eqb (kindOf (getD words 0 0)) 12 ≡ false → (o .log ≡ lent) × (writtenOf (o .answer) ≡ 0)
 
 unfoldable pub FirstCondition : Type 0
-FirstCondition = (w : World) (words log : List ℕ) → Kept w words log
+FirstCondition = (w : World) (words log : List ℕ) → Kept w words log (recordOf w words log)
 
 -- ---- "A refusal is given on its condition and on no other"
 
@@ -63,7 +62,7 @@ stateChecks w log serves (Tick dt) = tickChecks w log
 stateChecks w log serves Start = startChecks w
 
 abbrev pub behind : World → List ℕ → List ℕ → Read → List Check
-behind w log serves (Read.Refused r) = []
+behind w log serves (Read.Refused r) = check r true ∷ []
 behind w log serves (Read.Accepted read used) = stateChecks w log serves read
 
 -- a kind's conditions: those that the input brings, then the state's

@@ -1,3 +1,4 @@
 pub mod Record
+pub mod Parts
 pub mod Conditions
 pub mod Calls

@@ -1,4 +1,5 @@
 -- The record call: one record of a tape, from the world, the words and the log to the answer, the next world and the log.
+use mathlib.Core.Path.{_≡_}
 use mathlib.Core.Bool.{Bool, true, false, not, cond}
 use mathlib.Core.List.{List, [], _∷_}
 use Prim.Native.Nat.{ℕ, _^_}
@@ -23,6 +24,7 @@ use Rattle.loads.specs.declared.Taken.the-variants as Taken
 use Rattle.orders.specs.Orders.{send, setMode, setManualSpeed, queueCommand, pressHallCall, pushDestination, setEnabled}
 use Rattle.tick.specs.Tick.{tickWorld, tickWords}
 use Rattle.tick.specs.Room.{roomOf}
+use Rattle.record.specs.declared.Recorded.{Recorded}
 use Rattle.record.specs.declared.Answer.{Answer}
 use Rattle.record.specs.declared.Answer.the-variants.{Accepted, Refused}
 
@@ -61,6 +63,12 @@ accepted used written w log = record { answer = Accepted used written; world = w
 abbrev pub refused : World → List ℕ → Refusal → Outcome
 refused w log r = record { answer = Refused r; world = w; log = log }
 
+-- a call made by code: its answer and world, and the log that it left
+pub record Gives (r : Recorded) (left : List ℕ) (o : Outcome) : Type 0 where
+  pub answer : r .answer ≡ o .answer
+  pub world : r .world ≡ o .world
+  pub log : left ≡ o .log
+
 -- the first refusal whose condition holds, else the outcome
 abbrev pub unless : List Check → World → List ℕ → Outcome → Outcome
 unless [] w log o = o
@@ -68,12 +76,12 @@ unless (c ∷ cs) w log o = cond (c .holds) (refused w log (c .refusal)) (unless
 
 -- ---- every record but the tick: no word is written, the log is as it was
 
-abbrev pub changedBy : Taken → World → List ℕ → ℕ → Outcome
-changedBy Taken.Accepted w log used = accepted used 0 w log
-changedBy (Taken.Refused r) w log used = refused w log r
+abbrev pub answerOf : Taken → ℕ → Answer
+answerOf Taken.Accepted used = Accepted used 0
+answerOf (Taken.Refused r) used = Refused r
 
 abbrev pub changed : List ℕ → ℕ → Changed → Outcome
-changed log used c = changedBy (c .taken) (c .world) log used
+changed log used c = record { answer = answerOf (c .taken) used; world = c .world; log = log }
 
 -- ---- C tick: "A tick writes its words from the log's start; later words stay."
 

@@ -1,8 +1,9 @@
 // The record call: one record of a tape, checked in the paper's order and done.
 ghost use mathlib.Core.Path.{_≡_};
 ghost use mathlib.Core.Bool.{true};
-ghost use Rattle.record.specs.Record.{recordOf};
+ghost use Rattle.record.specs.Record as Call;
 ghost use Rattle.record.specs.Conditions.{FirstCondition, OnItsCondition};
+ghost use Rattle.record.specs.Parts.{Orders, Changes, Few};
 use loads::Changed;
 use loads::Taken;
 use tape::Read;
@@ -25,16 +26,144 @@ pub struct Recorded {
     pub world: World,
 }
 
+// Kinds 5 to B.
+fn order(world: World, read: Record) -> Changed
+    ensures { λ r. ⌜ Orders world read r ⌝ }
+{
+    match read {
+        Record::Send {
+            car,
+            stop,
+            reposition,
+        } => orders::send(world, car, stop, reposition),
+        Record::Mode { car, mode } => orders::set_mode(world, car, mode),
+        Record::ManualSpeed { car, speed } => orders::set_manual_speed(world, car, speed),
+        Record::DoorCommand { car, command } => orders::queue_command(world, car, command),
+        Record::HallCall { stop, down } => orders::press_hall_call(world, stop, down),
+        Record::Destination { car, stop } => orders::push_destination(world, car, stop),
+        Record::Enable { car, enabled } => orders::set_enabled(world, car, enabled),
+        _ => loads::accepted(world), // no order
+    }
+}
+
+// Kinds 1 to B and D.
+fn change(world: World, read: Record, serves: [u8; 64]) -> Changed
+    ensures { λ r. ⌜ Changes world serves read r ⌝ }
+{
+    match read {
+        Record::Line {
+            number,
+            kind,
+            listed,
+            count,
+        } => loads::load_line(world, number, kind, listed, count, serves),
+        Record::Stop { number, position } => loads::load_stop(world, number, position),
+        Record::Car {
+            number,
+            line,
+            motion,
+            door_transition_ticks,
+            door_open_ticks,
+        } => loads::load_car(
+            world,
+            number,
+            line,
+            motion,
+            door_transition_ticks,
+            door_open_ticks,
+        ),
+        Record::Rider { number, rider } => loads::load_rider(world, number, rider),
+        Record::Start => loads::start(world),
+        _ => order(world, read),
+    }
+}
+
 fn refused(world: World, refusal: Refusal) -> Recorded
     ensures { λ r. ⌜ (r .answer ≡ Answer.Refused refusal) × (r .world ≡ world) ⌝ }
 {
-    let answer = Answer::Refused(refusal);
-    Recorded { answer, world }
+    Recorded {
+        answer: Answer::Refused(refusal),
+        world,
+    }
 }
 
-// What loads: kinds 1 to 4 and D. What orders: kinds 5 to B. A tick leaves the world here.
-pub fn record(world: World, words: &[u32], log: &mut [u32]) -> Recorded
-    ensures { λ r. ⌜ (r .answer ≡ recordOf world (now (words .entry)) (now (log .entry)) .answer) × (r .world ≡ recordOf world (now (words .entry)) (now (log .entry)) .world) × (now (log .exit) ≡ recordOf world (now (words .entry)) (now (log .entry)) .log) ⌝ }
+// What a record gives that writes no word.
+fn answered(changed: Changed, used: usize) -> Recorded
+    ensures { λ r. ⌜ (r .answer ≡ Call.answerOf (changed .taken) used) × (r .world ≡ changed .world) ⌝ }
 {
-    refused(world, Refusal::BrokenWorld)
+    let world = changed.world;
+    let taken = changed.taken;
+    match taken {
+        Taken::Refused(refusal) => refused(world, refusal),
+        Taken::Accepted => Recorded {
+            answer: Answer::Accepted { used, written: 0 },
+            world,
+        },
+    }
+}
+
+// Kind C. A world that is not broken has at most 16 cars and 64 stops.
+fn tick_once(world: World, log: &mut [u32], dt: f64, used: usize) -> Recorded
+    requires { ⌜ Few world ⌝ }
+    ensures { λ r. ⌜ Call.Gives r (now (log .exit)) (Call.tickOnce world (now (log .entry)) used dt) ⌝ }
+{
+    if !world.started {
+        return refused(world, Refusal::NotNow);
+    }
+    if 0x1000_0000 <= world.ticks {
+        return refused(world, Refusal::LastTick);
+    }
+    if log.len() < world.car_count * (world.stop_count + 14) + 1 {
+        return refused(world, Refusal::LogShort);
+    }
+    let ran = tick(world, log, dt);
+    let next = ran.world;
+    Recorded {
+        answer: Answer::Accepted {
+            used,
+            written: ran.at,
+        },
+        world: next,
+    }
+}
+
+// The record that was read.
+fn take(world: World, log: &mut [u32], read: Record, serves: [u8; 64], used: usize) -> Recorded
+    requires { ⌜ Few world ⌝ }
+    ensures { λ r. ⌜ Call.Gives r (now (log .exit)) (Call.taken world (now (log .entry)) used serves read) ⌝ }
+{
+    match read {
+        Record::Tick { dt } => tick_once(world, log, dt, used),
+        _ => answered(change(world, read, serves), used),
+    }
+}
+
+// One record call.
+pub fn record(world: World, words: &[u32], log: &mut [u32]) -> Recorded
+    ensures { λ r. ⌜ Call.Gives r (now (log .exit)) (Call.recordOf world (now (words .entry)) (now (log .entry))) ⌝ }
+{
+    if broken(world) {
+        return refused(world, Refusal::BrokenWorld);
+    }
+    let decoded = decode(words);
+    let serves = decoded.serves;
+    let read = decoded.read;
+    match read {
+        Read::Refused(refusal) => refused(world, refusal),
+        Read::Accepted(record, used) => take(world, log, record, serves, used),
+    }
+}
+
+// Carries the certificate's first condition.
+pub fn first_condition() -> bool
+    ensures { λ r. ⌜ (r ≡ true) × FirstCondition ⌝ }
+{
+    true
+}
+
+// Carries the claim that a refusal is given on its condition and on no other.
+pub fn on_its_condition() -> bool
+    ensures { λ r. ⌜ (r ≡ true) × OnItsCondition ⌝ }
+{
+    true
 }

@@ -1,4 +1,4 @@
--- A refusal is 1 to 4, and a record takes no more words than there are. Assumes nothing.
+-- A refusal is 1 to 4; a record takes no more words than there are, and its kind is its head's. Assumes nothing.
 use mathlib.Core.Path.{_≡_, refl}
 use mathlib.Core.Bool.{Bool, true, false, _&&_, cond}
 use mathlib.Core.List.{List, [], _∷_}
@@ -6,14 +6,14 @@ use Prim.Native.Nat.{ℕ, _+_, _<_, _≤_}
 use native.Mathlib.Omega.{arith}
 use lib.Dec.{ltb, leb, eqb}
 use lib.ListN.{length, getD}
-use borrow.Author.Tests.{ltb-false, leb-true, eqb-false}
+use borrow.Author.Tests.{ltb-false, leb-true, eqb-true, eqb-false}
 use Rattle.world.specs.Refusal.{Check, check, refusalNumber}
 use Rattle.world.specs.declared.refusal.Refusal.{Refusal}
 use Rattle.world.specs.declared.refusal.Refusal.the-variants.{CutShort, UnknownKind}
 use Rattle.motion.proofs.Cases.{and-left, and-right}
 use Rattle.tape.specs.declared.head.Head.{Head}
 use Rattle.tape.specs.declared.Decoded.{Decoded}
-use Rattle.tape.specs.Tape.{Deed, Kind, kindIn, kinds, refused, unless, answer, headOf, servesCount, lineRecord, stopRecord, carRecord, riderRecord, sendRecord, modeRecord, manualSpeedRecord, doorCommandRecord, hallCallRecord, destinationRecord, enableRecord, tickRecord, startRecord, recordOf, decoded}
+use Rattle.tape.specs.Tape.{Deed, Kind, kindIn, kinds, refused, unless, answer, kindOf, headOf, servesCount, lineRecord, stopRecord, carRecord, riderRecord, sendRecord, modeRecord, manualSpeedRecord, doorCommandRecord, hallCallRecord, destinationRecord, enableRecord, tickRecord, startRecord, recordOf, decoded}
 use Rattle.tape.specs.Facts.{InBounds, Facts}
 
 -- every refusal of the checks is 1 to 4
@@ -43,40 +43,42 @@ module _ (ws : List ℕ) where
       either true p q = p
       either false p q = q refl
 
+  -- the answer of a kind, where the head is of that kind
   infixr 5 _and_
   data AllFine : List Kind → Type 0 where
     end : AllFine []
-    _and_ : {t : Kind} {ts : List Kind} → Fine (answer (t .deed)) → AllFine ts → AllFine (t ∷ ts)
+    _and_ : {t : Kind} {ts : List Kind} → (kindOf (getD ws 0 0) ≡ t .number → Fine (answer (t .deed))) → AllFine ts → AllFine (t ∷ ts)
 
-  kind-in : (k : ℕ) (ts : List Kind) → AllFine ts → Fine (kindIn k ts)
-  kind-in k [] end = refused-in UnknownKind refl
-  kind-in k (t ∷ ts) (p and u) = either (eqb k (t .number)) (kind-in k ts u)
+  kind-in : (ts : List Kind) → AllFine ts → Fine (kindIn (kindOf (getD ws 0 0)) ts)
+  kind-in [] end = refused-in UnknownKind refl
+  kind-in (t ∷ ts) (p and u) = either (eqb (kindOf (getD ws 0 0)) (t .number)) (λ e. p (eqb-true (kindOf (getD ws 0 0)) (t .number) e)) (kind-in ts u)
     where
-      either : (b : Bool) → Fine (kindIn k ts) → Fine (cond b (answer (t .deed)) (kindIn k ts))
-      either true q = p
-      either false q = q
+      either : (b : Bool) → (b ≡ true → Fine (answer (t .deed))) → Fine (kindIn (kindOf (getD ws 0 0)) ts) → Fine (cond b (answer (t .deed)) (kindIn (kindOf (getD ws 0 0)) ts))
+      either true p q = p refl
+      either false p q = q
 
   -- a record of so many words
   enough : (used : ℕ) → 0 < used → ltb (length ws) used ≡ false → (0 < used) × (used ≤ length ws)
   enough used p e = (p, ltb-false (length ws) used e)
 
-  record-in : (h : Head) → 0 < length ws → Fine (recordOf h ws)
+  record-in : 0 < length ws → Fine (recordOf (headOf (getD ws 0 0)) ws)
   unfolding recordOf lineRecord
-  record-in h p =
-      kind-in (h .kind) (kinds h ws)
-      (deed (lineRecord h ws) refl (λ q. enough (5 + servesCount (h .v)) (omega arith) (q .1 .0))
-      and deed (stopRecord h ws) refl (λ q. enough 3 (omega arith) (q .0))
-      and deed (carRecord h ws) refl (λ q. enough 15 (omega arith) (q .0))
-      and deed (riderRecord h ws) refl (λ q. enough 2 (omega arith) (q .0))
-      and deed (sendRecord h) refl (λ q. (omega arith, p))
-      and deed (modeRecord h) refl (λ q. (omega arith, p))
-      and deed (manualSpeedRecord h ws) refl (λ q. enough 3 (omega arith) (q .0))
-      and deed (doorCommandRecord h) refl (λ q. (omega arith, p))
-      and deed (hallCallRecord h) refl (λ q. (omega arith, p))
-      and deed (destinationRecord h) refl (λ q. (omega arith, p))
-      and deed (enableRecord h) refl (λ q. (omega arith, p))
-      and deed (tickRecord h ws) refl (λ q. enough 3 (omega arith) (q .0))
-      and deed (startRecord h) refl (λ q. (omega arith, p))
+  record-in p =
+      let h = headOf (getD ws 0 0) in
+      kind-in (kinds h ws)
+      ((λ e. deed (lineRecord h ws) refl (λ q. let n = enough (5 + servesCount (h .v)) (omega arith) (q .1 .0) in (n .0, n .1, e)))
+      and (λ e. deed (stopRecord h ws) refl (λ q. let n = enough 3 (omega arith) (q .0) in (n .0, n .1, e)))
+      and (λ e. deed (carRecord h ws) refl (λ q. let n = enough 15 (omega arith) (q .0) in (n .0, n .1, e)))
+      and (λ e. deed (riderRecord h ws) refl (λ q. let n = enough 2 (omega arith) (q .0) in (n .0, n .1, e)))
+      and (λ e. deed (sendRecord h) refl (λ q. (omega arith, p, e)))
+      and (λ e. deed (modeRecord h) refl (λ q. (omega arith, p, e)))
+      and (λ e. deed (manualSpeedRecord h ws) refl (λ q. let n = enough 3 (omega arith) (q .0) in (n .0, n .1, e)))
+      and (λ e. deed (doorCommandRecord h) refl (λ q. (omega arith, p, e)))
+      and (λ e. deed (hallCallRecord h) refl (λ q. (omega arith, p, e)))
+      and (λ e. deed (destinationRecord h) refl (λ q. (omega arith, p, e)))
+      and (λ e. deed (enableRecord h) refl (λ q. (omega arith, p, e)))
+      and (λ e. deed (tickRecord h ws) refl (λ q. let n = enough 3 (omega arith) (q .0) in (n .0, n .1, e)))
+      and (λ e. deed (startRecord h) refl (λ q. (omega arith, p, e)))
       and end)
     where
       deed : (d : Deed) → known (d .checks) ≡ true → (Passed (d .checks) → Fine (d .done)) → Fine (answer d)
@@ -88,4 +90,4 @@ in-bounds ws = go (eqb (length ws) 0) refl
   where
     go : (b : Bool) → eqb (length ws) 0 ≡ b → InBounds ws (unless (check CutShort b ∷ []) (recordOf (headOf (getD ws 0 0)) ws) .read)
     go true e = (omega arith, omega arith)
-    go false e = let n : (length ws ≡ 0) → ⊥ = eqb-false (length ws) 0 e in record-in ws (headOf (getD ws 0 0)) (omega arith)
+    go false e = let n : (length ws ≡ 0) → ⊥ = eqb-false (length ws) 0 e in record-in ws (omega arith)

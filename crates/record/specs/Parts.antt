@@ -1,0 +1,58 @@
+-- Which records a part of the record call takes.
+use mathlib.Core.Path.{_≡_}
+use mathlib.Core.Bool.{Bool, true, false}
+use mathlib.Core.List.{List}
+use Prim.Native.Nat.{ℕ, _≤_}
+use Rattle.world.specs.declared.World.{World}
+use Rattle.loads.specs.declared.Changed.{Changed}
+use Rattle.tape.specs.declared.Record.{Record}
+use Rattle.tape.specs.declared.Record.the-variants.{Line, Stop, Car, Rider, Send, Mode, ManualSpeed, DoorCommand, HallCall, Destination, Enable, Tick, Start}
+use Rattle.record.specs.Record.{changed, taken}
+
+-- kind C
+abbrev pub isTick : Record → Bool
+isTick (Line number kind listed count) = false
+isTick (Stop number position) = false
+isTick (Car number line motion transition opening) = false
+isTick (Rider number rider) = false
+isTick (Send car stop reposition) = false
+isTick (Mode car mode) = false
+isTick (ManualSpeed car speed) = false
+isTick (DoorCommand car command) = false
+isTick (HallCall stop down) = false
+isTick (Destination car stop) = false
+isTick (Enable car enabled) = false
+isTick (Tick dt) = true
+isTick Start = false
+
+-- kinds 5 to B
+abbrev pub isOrder : Record → Bool
+isOrder (Line number kind listed count) = false
+isOrder (Stop number position) = false
+isOrder (Car number line motion transition opening) = false
+isOrder (Rider number rider) = false
+isOrder (Send car stop reposition) = true
+isOrder (Mode car mode) = true
+isOrder (ManualSpeed car speed) = true
+isOrder (DoorCommand car command) = true
+isOrder (HallCall stop down) = true
+isOrder (Destination car stop) = true
+isOrder (Enable car enabled) = true
+isOrder (Tick dt) = false
+isOrder Start = false
+
+-- the change `r` is what the record `read` does
+abbrev pub Does : World → List ℕ → Record → Changed → Type 0
+Does w serves read r = (log : List ℕ) (used : ℕ) → changed log used r ≡ taken w log used serves read
+
+-- of kinds 5 to B
+abbrev pub Orders : World → Record → Changed → Type 0
+Orders w read r = (serves : List ℕ) → isOrder read ≡ true → Does w serves read r
+
+-- of all kinds but C
+abbrev pub Changes : World → List ℕ → Record → Changed → Type 0
+Changes w serves read r = isTick read ≡ false → Does w serves read r
+
+-- a world that is not broken has no more
+abbrev pub Few : World → Type 0
+Few w = (w .«car_count» ≤ 16) × (w .«stop_count» ≤ 64)
