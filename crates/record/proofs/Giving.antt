@@ -1,16 +1,16 @@
 -- What a call gives, case by case. Assumes nothing.
 use mathlib.Core.Path.{_≡_, refl, sym, _∙_, ap, subst}
-use mathlib.Core.Bool.{Bool, true, false, not, _||_, true≢false, cond}
+use mathlib.Core.Bool.{Bool, true, false, not, true≢false, cond}
 use mathlib.Core.List.{List}
 use native.Mathlib.Nat.{mul-le-mul}
 use native.Mathlib.Omega.{arith}
 use Prim.Native.Nat.{ℕ, _+_, _*_, _^_, _≤_, _<_}
-use lib.Dec.{leb, ltb}
 use lib.ListN.{length}
 use lib.Ieee.{Float}
-use borrow.Author.Tests.{ltb-false, lt-ltb, le-ltb, le-leb, lt-leb}
+use borrow.Author.Tests.{lt-ltb, le-ltb, le-leb, lt-leb}
 use Rattle.world.specs.Sound.{broken, countsBroken}
 use Rattle.world.specs.declared.World.{World}
+use Rattle.world.proofs.Unbroken.{counts-fit}
 use Rattle.world.specs.declared.refusal.Refusal.{Refusal}
 use Rattle.world.specs.declared.refusal.Refusal.the-variants.{BrokenWorld, NotNow, LastTick, LogShort}
 use Rattle.tape.specs.Tape.{decoded}
@@ -99,18 +99,8 @@ whole-counts : (w : World) (b : Bool) → countsBroken w ≡ b → broken w ≡ 
 whole-counts w true e h = absurd (true≢false (sym (broken-counts w e) ∙ h))
 whole-counts w false e h = refl
 
-none-of-six : (a b c d e f : Bool) → a || b || c || d || e || f ≡ false → (a ≡ false) × (c ≡ false)
-none-of-six true b c d e f h = absurd (true≢false h)
-none-of-six false true c d e f h = absurd (true≢false h)
-none-of-six false false true d e f h = absurd (true≢false h)
-none-of-six false false false d e f h = (refl, refl)
-
 pub few : (w : World) → broken w ≡ false → Few w
-unfolding countsBroken
-few w h =
-    let counts = whole-counts w (countsBroken w) refl h in
-    let n = none-of-six (ltb 64 (w .«stop_count»)) (ltb 8 (w .«line_count»)) (ltb 16 (w .«car_count»)) (ltb 128 (w .«rider_count»)) (ltb (2 ^ 28) (w .ticks)) (leb (2 ^ 48) (w .«total_moves»)) counts in
-    (ltb-false 16 (w .«car_count») (n .1), ltb-false 64 (w .«stop_count») (n .0))
+few w h = let n = counts-fit w (whole-counts w (countsBroken w) refl h) in (n .cars, n .stops)
 
 pub room-small : (a b : ℕ) → a ≤ 16 → b ≤ 64 → a * (b + 14) ≤ 16 * 78
 room-small a b x y = mul-le-mul {n₁ = a} {m₁ = b + 14} {n₂ = 16} {m₂ = 78} x (omega arith)
