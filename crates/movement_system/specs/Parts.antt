@@ -1,6 +1,6 @@
 -- A turn's parts, as the code makes them: what a car tells, its moves, where it is left. proofs/Parts.antt has that they are the turn's.
 use mathlib.Core.Path.{_≡_}
-use mathlib.Core.Bool.{Bool, true, false, cond}
+use mathlib.Core.Bool.{Bool, false, cond}
 use mathlib.Core.List.{List, [], _∷_}
 use Prim.Native.Nat.{ℕ}
 use lib.ListN.{length}
