@@ -1,4 +1,5 @@
-pub mod Thresholds
 pub mod Counting
+pub mod Thresholds
 pub mod Emitting
+pub mod Parts
 pub mod Moving

@@ -1,15 +1,17 @@
 -- The cars' turns: what a turn of the code is in the world so far. Assumes nothing.
-use mathlib.Core.Path.{_≡_, refl}
-use mathlib.Core.Bool.{Bool, true, false, _&&_}
+use mathlib.Core.Path.{_≡_, refl, sym, ap, _∙_}
+use mathlib.Core.Bool.{Bool, true, false}
 use mathlib.Core.Logic.{_⊎_, ⊎-elim}
-use mathlib.Core.List.{List}
-use Prim.Native.Nat.{ℕ, _+_, min}
+use mathlib.Core.List.{List, [], _∷_}
+use Prim.Native.Nat.{ℕ, zero, suc, _+_, _<_, _≤_, min}
 use native.Mathlib.Numerals.{add-one}
+use borrow.Author.Tests.{lt-ltb, le-ltb}
 use lib.ListN.{set}
+use lib.Seq.{set-getD}
 use lib.Ieee.{Float}
 use Rattle.motion.specs.declared.movement.MovementResult.{MovementResult}
-use Rattle.motion.proofs.Cases.{yes}
-use Rattle.world.specs.World.{carAt}
+use Rattle.motion.proofs.Cases.{yes, no}
+use Rattle.world.specs.World.{carAt, lineAt, noCar}
 use Rattle.world.specs.declared.World.{World}
 use Rattle.world.specs.declared.Car.{Car}
 use Rattle.world.specs.declared.Line.{Line}
@@ -17,20 +19,27 @@ use Rattle.world.specs.declared.LineKind.{LineKind}
 use Rattle.world.specs.declared.LineKind.the-variants.{Linear, Loop}
 use Rattle.lookup.specs.declared.leader.LeaderOption.{LeaderOption}
 use Rattle.log.specs.Log.{Wrote}
-use Rattle.log.proofs.Writing.{also}
-use Rattle.steps.specs.Steps.{Step, lineOf, runTo}
+use Rattle.log.proofs.Writing.{also, wrote-none}
+use Rattle.steps.specs.Steps.{plus, Step, lineOf, lampsOf, stepped, notOpened, runTo}
 use Rattle.steps.specs.declared.Lamps.{Lamps}
 use Rattle.trips.specs.Trips.{isTrip, isLoop, tripOf}
 use Rattle.trips.specs.Landing.{leaderOf, landing}
 use Rattle.trips.specs.Arrival.{asksWork, workOf}
 use Rattle.trips.specs.declared.Trip.{Trip}
 use Rattle.trips.specs.declared.Trip.the-variants.{Rests, Drives, GoesTo, Repositions}
-use Rattle.movement_system.specs.Movement.{turnBy, Turns, moveOf}
-use Rattle.movement_system.specs.declared.cars.Turned.{Turned}
+use Rattle.movement_system.specs.Movement.{turnBy, moveOf}
+use Rattle.movement_system.specs.Parts.{come, wordsBy, movesBy, distanceBy, stepBy, Tells}
+use Rattle.movement_system.specs.declared.Emitted.{Emitted}
+use Rattle.movement_system.proofs.Parts.{result, own-lamps, work-lamps}
 
--- ---- what is not asked for does not matter
+-- ---- what is read in a turn
 
-any-leader : (trip : Trip) (kind : LineKind) (l l′ : LeaderOption) (c : Car) (stops : List Float) (dt : Float) → (isTrip trip && isLoop kind) ≡ false
+pub kind-of : (lines : List Line) (line : ℕ) (kind : LineKind) → ((line < 8) × (kind ≡ lineAt lines line .kind)) ⊎ ((8 ≤ line) × (kind ≡ Linear))
+    → kind ≡ lineOf lines line .kind
+unfolding lineOf
+kind-of lines line kind h = ⊎-elim (λ z. z .1 ∙ rw (lt-ltb _ _ (z .0))) (λ z. z .1 ∙ rw (le-ltb _ _ (z .0))) h
+
+any-leader : (trip : Trip) (kind : LineKind) (l l′ : LeaderOption) (c : Car) (stops : List Float) (dt : Float) → isLoop kind ≡ false
     → landing trip kind l c stops dt ≡ landing trip kind l′ c stops dt
 any-leader Rests kind l l′ c stops dt h = refl
 any-leader Drives Linear l l′ c stops dt h = refl
@@ -40,55 +49,121 @@ any-leader (GoesTo s) (Loop x y) l l′ c stops dt h = yes h
 any-leader (Repositions s) Linear l l′ c stops dt h = refl
 any-leader (Repositions s) (Loop x y) l l′ c stops dt h = yes h
 
-any-work : (trip : Trip) (i : ℕ) (kind : LineKind) (stops : List Float) (n tick total : ℕ) (distance : Float) (c : Car) (p v : Float) (arrived : Bool) (work work′ : Lamps)
-    → asksWork trip kind arrived ≡ false
-    → turnBy trip i kind stops n tick total distance c (record { position = p; velocity = v; arrived = arrived }) work
-    ≡ turnBy trip i kind stops n tick total distance c (record { position = p; velocity = v; arrived = arrived }) work′
-any-work Rests i kind stops n tick total distance c p v arrived work work′ h = refl
-any-work Drives i kind stops n tick total distance c p v arrived work work′ h = refl
-any-work (GoesTo s) i Linear stops n tick total distance c p v true work work′ h = yes h
-any-work (GoesTo s) i Linear stops n tick total distance c p v false work work′ h = refl
-any-work (GoesTo s) i (Loop x y) stops n tick total distance c p v true work work′ h = refl
-any-work (GoesTo s) i (Loop x y) stops n tick total distance c p v false work work′ h = refl
-any-work (Repositions s) i kind stops n tick total distance c p v arrived work work′ h = refl
-
 -- ---- the turn of a car
 
--- by the line that was read, the leader and the remaining work, where they were looked for
-pub moves : (dt : Float) (w : World) (i n : ℕ) (lines : List Line) (trip : Trip) (line : Line) (leader : LeaderOption) (r : MovementResult) (work : Lamps)
-    {l l′ : List ℕ} {at : ℕ} {x : Turned} → w .lines ≡ lines → n ≡ min (w .«stop_count») 64 → trip ≡ tripOf (carAt (w .cars) i)
-    → line ≡ lineOf lines (carAt (w .cars) i .line)
-    → ((isTrip trip && isLoop (line .kind)) ≡ false) ⊎ (leader ≡ leaderOf (line .kind) (w .cars) (w .«car_count») i (carAt (w .cars) i))
-    → r ≡ landing trip (line .kind) leader (carAt (w .cars) i) (w .stops) dt
-    → (asksWork trip (line .kind) (r .arrived) ≡ false) ⊎ (work ≡ workOf trip (w .riders) (w .«rider_count») (carAt (w .cars) i) (w .stops) i)
-    → Turns (turnBy trip i (line .kind) (w .stops) n (w .ticks) (w .«total_moves») (w .«reposition_distance») (carAt (w .cars) i) r work) l at l′ x
-    → Turns (moveOf dt w i) l at l′ x
+abbrev at-rest : World → Car → Step
+at-rest w c = record { car = c; words = []; total = w .«total_moves»; distance = w .«reposition_distance»; opened = notOpened }
+
+resting : (trip : Trip) (i : ℕ) (kind : LineKind) (n : ℕ) (w : World) (c : Car) (r : MovementResult) (work : Lamps) → isTrip trip ≡ false
+    → turnBy trip i kind (w .stops) n (w .ticks) (w .«total_moves») (w .«reposition_distance») c r work ≡ at-rest w c
+resting Rests i kind n w c r work h = refl
+resting Drives i kind n w c r work h = yes h
+resting (GoesTo s) i kind n w c r work h = yes h
+resting (Repositions s) i kind n w c r work h = yes h
+
+-- of one at rest
+pub rests : (dt : Float) (w : World) (i : ℕ) (trip : Trip) → trip ≡ tripOf (carAt (w .cars) i) → isTrip trip ≡ false → moveOf dt w i ≡ at-rest w (carAt (w .cars) i)
 unfolding moveOf
-moves dt w i n lines trip line leader r work el en et e lead er wk h =
+rests dt w i trip et h =
     let c = carAt (w .cars) i in
-    let a : landing trip (line .kind) leader c (w .stops) dt ≡ landing trip (line .kind) (leaderOf (line .kind) (w .cars) (w .«car_count») i c) c (w .stops) dt =
-    ⊎-elim (λ z. any-leader trip (line .kind) leader _ c (w .stops) dt z) (λ z. rw z) lead in
-    let b : turnBy trip i (line .kind) (w .stops) n (w .ticks) (w .«total_moves») (w .«reposition_distance») c r work
-    ≡ turnBy trip i (line .kind) (w .stops) n (w .ticks) (w .«total_moves») (w .«reposition_distance») c r (workOf trip (w .riders) (w .«rider_count») c (w .stops) i) =
+    let kind = lineOf (w .lines) (c .line) .kind in
+    let k = resting trip i kind (min (w .«stop_count») 64) w c (landing trip kind (leaderOf kind (w .cars) (w .«car_count») i c) c (w .stops) dt)
+    (workOf trip (w .riders) (w .«rider_count») c (w .stops) i) h in
+    rw (← et) k
+
+-- by the leader and the remaining work, where they were looked for
+pub moves : (dt : Float) (w : World) (i n : ℕ) (trip : Trip) (kind : LineKind) (leader : LeaderOption) (r : MovementResult) (lamps : Lamps)
+    → n ≡ min (w .«stop_count») 64 → trip ≡ tripOf (carAt (w .cars) i) → isTrip trip ≡ true
+    → kind ≡ lineOf (w .lines) (carAt (w .cars) i .line) .kind
+    → (isLoop kind ≡ false) ⊎ (leader ≡ leaderOf kind (w .cars) (w .«car_count») i (carAt (w .cars) i))
+    → r ≡ landing trip kind leader (carAt (w .cars) i) (w .stops) dt
+    → ((asksWork trip kind (r .arrived) ≡ false) × (lamps ≡ lampsOf (carAt (w .cars) i)))
+    ⊎ ((asksWork trip kind (r .arrived) ≡ true) × (lamps ≡ workOf trip (w .riders) (w .«rider_count») (carAt (w .cars) i) (w .stops) i))
+    → moveOf dt w i ≡ stepBy trip i kind (w .stops) n (w .ticks) (w .«total_moves») (w .«reposition_distance») (carAt (w .cars) i) r lamps
+unfolding moveOf
+moves dt w i n trip kind leader r lamps en et t ek lead er wk =
+    let c = carAt (w .cars) i in
+    let work = workOf trip (w .riders) (w .«rider_count») c (w .stops) i in
+    let a : r ≡ landing trip kind (leaderOf kind (w .cars) (w .«car_count») i c) c (w .stops) dt =
+    er ∙ ⊎-elim (λ z. any-leader trip kind leader _ c (w .stops) dt z) (λ z. rw z) lead in
+    let b : turnBy trip i kind (w .stops) n (w .ticks) (w .«total_moves») (w .«reposition_distance») c r work
+    ≡ stepBy trip i kind (w .stops) n (w .ticks) (w .«total_moves») (w .«reposition_distance») c r lamps =
     ⊎-elim
-    (λ z. any-work trip i (line .kind) (w .stops) n (w .ticks) (w .«total_moves») (w .«reposition_distance») c (r .position) (r .velocity) (r .arrived) work _ z)
-    (λ z. rw z) wk in
-    let k = rw (b, er, a, en) at h in
-    rw (el, ← e, ← et) k
+    (λ z. own-lamps trip i kind (w .stops) n (w .ticks) (w .«total_moves») (w .«reposition_distance») c (r .position) (r .velocity) (r .arrived) work t (z .0)
+    ∙ rw (z .1))
+    (λ z. work-lamps trip i kind (w .stops) n (w .ticks) (w .«total_moves») (w .«reposition_distance») c (r .position) (r .velocity) (r .arrived) work (z .0)
+    ∙ rw (z .1)) wk in
+    rw (← et, ← ek, ← a, ← en) b
 
--- ---- the turns so far
+-- ---- a car changed in place
 
-pub record Moves (turn : World → ℕ → Step) (world : World) (l : List ℕ) (at i : ℕ) (w : World) (l′ : List ℕ) (to : ℕ) : Type 0 where
-  pub left : w ≡ runTo turn world i .world
-  pub wrote : Wrote l at (runTo turn world i .words) l′ to
+abbrev put : (Car → Car) → List Car → ℕ → List Car
+put f cs i = set cs i (f (carAt cs i))
 
-abbrev pub moved : World → ℕ → Turned → World
-moved w i x = record {
+put-put : (f g : Car → Car) (cs : List Car) (i : ℕ) → put g (put f cs i) i ≡ put (λ c. g (f c)) cs i
+put-put f g [] i = refl
+put-put f g (x ∷ xs) zero = refl
+put-put f g (x ∷ xs) (suc i) = ap (λ (r : List Car). x ∷ r) (put-put f g xs i)
+
+-- with a position, a velocity and a count of moves
+abbrev placed : Car → Float → Float → ℕ → Car
+placed c position velocity count = record {
+  line = c .line;
+  phase = c .phase;
+  door = c .door;
+  «service_mode» = c .«service_mode»;
+  enabled = c .enabled;
+  motion =
+      record {
+        position = position;
+        velocity = velocity;
+        «max_speed» = c .motion .«max_speed»;
+        acceleration = c .motion .acceleration;
+        deceleration = c .motion .deceleration;
+        «inspection_speed_factor» = c .motion .«inspection_speed_factor»;
+      };
+  «door_transition_ticks» = c .«door_transition_ticks»;
+  «door_open_ticks» = c .«door_open_ticks»;
+  «going_up» = c .«going_up»;
+  «going_down» = c .«going_down»;
+  «going_forward» = c .«going_forward»;
+  repositioning = c .repositioning;
+  «target_stop» = c .«target_stop»;
+  «manual_target_velocity» = c .«manual_target_velocity»;
+  «destination_queue» = c .«destination_queue»;
+  «destination_count» = c .«destination_count»;
+  «door_command_queue» = c .«door_command_queue»;
+  «command_count» = c .«command_count»;
+  «move_count» = count;
+  cooldown = c .cooldown;
+}
+
+-- one number after the other
+abbrev pub thrice : List Car → ℕ → Float → Float → ℕ → List Car
+thrice cs i p v m =
+    put (λ c. placed c (c .motion .position) (c .motion .velocity) m)
+    (put (λ c. placed c (c .motion .position) v (c .«move_count»)) (put (λ c. placed c p (c .motion .velocity) (c .«move_count»)) cs i) i) i
+
+pub lands : (cs : List Car) (i : ℕ) (p v : Float) (m : ℕ) → thrice cs i p v m ≡ set cs i (placed (carAt cs i) p v m)
+lands cs i p v m =
+    ap (λ (z : List Car). put (λ c. placed c (c .motion .position) (c .motion .velocity) m) z i)
+    (put-put (λ c. placed c p (c .motion .velocity) (c .«move_count»)) (λ c. placed c (c .motion .position) v (c .«move_count»)) cs i)
+    ∙ put-put (λ c. placed c p v (c .«move_count»)) (λ c. placed c (c .motion .position) (c .motion .velocity) m) cs i
+
+pub arrives : (cs : List Car) (i : ℕ) (p v : Float) (m : ℕ) (trip : Trip) (lamps : Lamps) (tick : ℕ)
+    → set (thrice cs i p v m) i (come trip (carAt (thrice cs i p v m) i) lamps tick) ≡ set cs i (come trip (placed (carAt cs i) p v m) lamps tick)
+arrives cs i p v m trip lamps tick =
+    ap (λ (z : List Car). put (λ c. come trip c lamps tick) z i) (lands cs i p v m) ∙ put-put (λ c. placed c p v m) (λ c. come trip c lamps tick) cs i
+
+-- ---- the world that a turn leaves
+
+abbrev pub after : World → List Car → ℕ → Float → World
+after w cars total distance = record {
   stops = w .stops;
   «stop_count» = w .«stop_count»;
   lines = w .lines;
   «line_count» = w .«line_count»;
-  cars = set (w .cars) i (x .car);
+  cars = cars;
   «car_count» = w .«car_count»;
   riders = w .riders;
   «rider_count» = w .«rider_count»;
@@ -96,12 +171,107 @@ moved w i x = record {
   «down_calls» = w .«down_calls»;
   started = w .started;
   ticks = w .ticks;
-  «total_moves» = x .total;
-  «reposition_distance» = x .distance;
+  «total_moves» = total;
+  «reposition_distance» = distance;
 }
 
+pub left-moving : (w : World) (i n : ℕ) (trip : Trip) (kind : LineKind) (p v : Float) (arrived : Bool) (lamps : Lamps) (x m total : ℕ) (distance : Float)
+    → arrived ≡ false → x ≡ movesBy trip kind (w .stops) n (carAt (w .cars) i) (result p v arrived) → m ≡ plus (carAt (w .cars) i .«move_count») x
+    → total ≡ plus (w .«total_moves») x → distance ≡ distanceBy trip kind (w .«reposition_distance») (carAt (w .cars) i .motion .position) p
+    → after w (thrice (w .cars) i p v m) total distance
+    ≡ stepped w i
+    (stepBy trip i kind (w .stops) n (w .ticks) (w .«total_moves») (w .«reposition_distance») (carAt (w .cars) i) (result p v arrived) lamps)
+left-moving w i n trip kind p v true lamps x m total distance h ex em et ed = yes h
+left-moving w i n trip kind p v false lamps x m total distance h ex em et ed = ap (λ (z : List Car). after w z total distance) (lands (w .cars) i p v m) ∙ rw (em, et, ed, ex)
+
+pub left-at-stop : (w : World) (i n : ℕ) (trip : Trip) (kind : LineKind) (p v : Float) (arrived : Bool) (lamps : Lamps) (x m total : ℕ) (distance : Float) (c : Car)
+    → arrived ≡ true → x ≡ movesBy trip kind (w .stops) n (carAt (w .cars) i) (result p v arrived) → m ≡ plus (carAt (w .cars) i .«move_count») x
+    → total ≡ plus (w .«total_moves») x → distance ≡ distanceBy trip kind (w .«reposition_distance») (carAt (w .cars) i .motion .position) p
+    → c ≡ come trip (carAt (thrice (w .cars) i p v m) i) lamps (w .ticks)
+    → after w (set (thrice (w .cars) i p v m) i c) total distance
+    ≡ stepped w i
+    (stepBy trip i kind (w .stops) n (w .ticks) (w .«total_moves») (w .«reposition_distance») (carAt (w .cars) i) (result p v arrived) lamps)
+left-at-stop w i n trip kind p v false lamps x m total distance c h ex em et ed ec = no h
+left-at-stop w i n trip kind p v true lamps x m total distance c h ex em et ed ec =
+    ap (λ (z : List Car). after w z total distance)
+    (ap (λ (z : Car). set (thrice (w .cars) i p v m) i z) ec ∙ arrives (w .cars) i p v m trip lamps (w .ticks))
+    ∙ rw (em, et, ed, ex)
+
+pub left-at-rest : (w : World) (i : ℕ) → w ≡ stepped w i (at-rest w (carAt (w .cars) i))
+left-at-rest w i = ap (λ (z : List Car). after w z (w .«total_moves») (w .«reposition_distance»)) (sym (set-getD (w .cars) i noCar))
+
+-- ---- the turns so far
+
+pub record Moves (turn : World → ℕ → Step) (world : World) (l : List ℕ) (at i : ℕ) (w : World) (l′ : List ℕ) (to : ℕ) : Type 0 where
+  pub left : w ≡ runTo turn world i .world
+  pub wrote : Wrote l at (runTo turn world i .words) l′ to
+
 -- and one more
-pub more : {turn : World → ℕ → Step} {world w : World} {l l′ l″ : List ℕ} {at i to : ℕ} {x : Turned} → Moves turn world l at i w l′ to → Turns (turn w i) l′ to l″ x
-    → Moves turn world l at (i + 1) (moved w i x) l″ (x .at)
+pub more : {turn : World → ℕ → Step} {world w w′ : World} {l l′ l″ : List ℕ} {at i to to′ : ℕ} {s : Step} → Moves turn world l at i w l′ to → turn w i ≡ s
+    → w′ ≡ stepped w i s → Wrote l′ to (s .words) l″ to′ → Moves turn world l at (i + 1) w′ l″ to′
 unfolding runTo
-more k h = record { left = rw (add-one, ← k .left, h .car, h .total, h .distance); wrote = rw (add-one, ← k .left) (also (k .wrote) (h .wrote)) }
+more k e f h = record { left = f ∙ rw (add-one, ← k .left, ← e); wrote = rw (add-one, ← k .left) (also (k .wrote) (rw (← e) at h)) }
+
+-- a turn leaves the stops
+pub same-stops : (turn : World → ℕ → Step) (w : World) (i : ℕ) → runTo turn w i .world .stops ≡ w .stops
+unfolding runTo
+same-stops turn w zero = refl
+same-stops turn w (suc i) = same-stops turn w i
+
+pub same-count : (turn : World → ℕ → Step) (w : World) (i : ℕ) → runTo turn w i .world .«stop_count» ≡ w .«stop_count»
+unfolding runTo
+same-count turn w zero = refl
+same-count turn w (suc i) = same-count turn w i
+
+pub stops-kept : {turn : World → ℕ → Step} {world w : World} {l l′ : List ℕ} {at i to : ℕ} → Moves turn world l at i w l′ to → w .stops ≡ world .stops
+stops-kept {turn} {world} {w} {l} {l′} {at} {i} k = ap (λ (z : World). z .stops) (k .left) ∙ same-stops turn world i
+
+pub count-kept : {turn : World → ℕ → Step} {world w : World} {l l′ : List ℕ} {at i to : ℕ} → Moves turn world l at i w l′ to
+    → w .«stop_count» ≡ world .«stop_count»
+count-kept {turn} {world} {w} {l} {l′} {at} {i} k = ap (λ (z : World). z .«stop_count») (k .left) ∙ same-count turn world i
+
+-- ---- one turn more, as the code makes it
+
+-- the car goes on
+pub goes-on : (dt : Float) (world w w′ : World) (l l′ l″ l‴ : List ℕ) (at i n to to′ : ℕ) (trip : Trip) (kind : LineKind) (leader : LeaderOption) (r : MovementResult) (lamps : Lamps)
+    (x : Emitted) (m total : ℕ) (distance : Float) → Moves (moveOf dt) world l at i w l′ to → n ≡ min (world .«stop_count») 64
+    → trip ≡ tripOf (carAt (w .cars) i) → isTrip trip ≡ true
+    → ((carAt (w .cars) i .line < 8) × (kind ≡ lineAt (w .lines) (carAt (w .cars) i .line) .kind)) ⊎ ((8 ≤ carAt (w .cars) i .line) × (kind ≡ Linear))
+    → (isLoop kind ≡ false) ⊎ (leader ≡ leaderOf kind (w .cars) (w .«car_count») i (carAt (w .cars) i))
+    → r ≡ landing trip kind leader (carAt (w .cars) i) (w .stops) dt
+    → ((asksWork trip kind (r .arrived) ≡ false) × (lamps ≡ lampsOf (carAt (w .cars) i)))
+    ⊎ ((asksWork trip kind (r .arrived) ≡ true) × (lamps ≡ workOf trip (w .riders) (w .«rider_count») (carAt (w .cars) i) (w .stops) i))
+    → Tells (wordsBy trip i kind (w .stops) n (carAt (w .cars) i) r lamps) (movesBy trip kind (w .stops) n (carAt (w .cars) i) r) l′ to l″ x
+    → m ≡ plus (carAt (w .cars) i .«move_count») (x .count) → total ≡ plus (w .«total_moves») (x .count)
+    → distance ≡ distanceBy trip kind (w .«reposition_distance») (carAt (w .cars) i .motion .position) (r .position)
+    → r .arrived ≡ false → w′ ≡ after w (thrice (w .cars) i (r .position) (r .velocity) m) total distance → l‴ ≡ l″ → to′ ≡ x .at
+    → Moves (moveOf dt) world l at (i + 1) w′ l‴ to′
+goes-on dt world w w′ l l′ l″ l‴ at i n to to′ trip kind leader r lamps x m total distance k en et t ek lead er wk told em eo ed h ew el eto =
+    let e = moves dt w i n trip kind leader r lamps (en ∙ rw (count-kept k)) et t (kind-of (w .lines) (carAt (w .cars) i .line) kind ek) lead er wk in
+    let f = left-moving w i n trip kind (r .position) (r .velocity) (r .arrived) lamps (x .count) m total distance h (told .count) em eo ed in
+    more k e (ew ∙ f) (rw (el, eto) (told .wrote))
+
+-- it comes to its stop
+pub comes-in : (dt : Float) (world w w′ : World) (l l′ l″ l‴ : List ℕ) (at i n to to′ : ℕ) (trip : Trip) (kind : LineKind) (leader : LeaderOption) (r : MovementResult) (lamps : Lamps)
+    (x : Emitted) (m total : ℕ) (distance : Float) (c : Car) → Moves (moveOf dt) world l at i w l′ to → n ≡ min (world .«stop_count») 64
+    → trip ≡ tripOf (carAt (w .cars) i) → isTrip trip ≡ true
+    → ((carAt (w .cars) i .line < 8) × (kind ≡ lineAt (w .lines) (carAt (w .cars) i .line) .kind)) ⊎ ((8 ≤ carAt (w .cars) i .line) × (kind ≡ Linear))
+    → (isLoop kind ≡ false) ⊎ (leader ≡ leaderOf kind (w .cars) (w .«car_count») i (carAt (w .cars) i))
+    → r ≡ landing trip kind leader (carAt (w .cars) i) (w .stops) dt
+    → ((asksWork trip kind (r .arrived) ≡ false) × (lamps ≡ lampsOf (carAt (w .cars) i)))
+    ⊎ ((asksWork trip kind (r .arrived) ≡ true) × (lamps ≡ workOf trip (w .riders) (w .«rider_count») (carAt (w .cars) i) (w .stops) i))
+    → Tells (wordsBy trip i kind (w .stops) n (carAt (w .cars) i) r lamps) (movesBy trip kind (w .stops) n (carAt (w .cars) i) r) l′ to l″ x
+    → m ≡ plus (carAt (w .cars) i .«move_count») (x .count) → total ≡ plus (w .«total_moves») (x .count)
+    → distance ≡ distanceBy trip kind (w .«reposition_distance») (carAt (w .cars) i .motion .position) (r .position)
+    → r .arrived ≡ true → c ≡ come trip (carAt (thrice (w .cars) i (r .position) (r .velocity) m) i) lamps (w .ticks)
+    → w′ ≡ after w (set (thrice (w .cars) i (r .position) (r .velocity) m) i c) total distance → l‴ ≡ l″ → to′ ≡ x .at
+    → Moves (moveOf dt) world l at (i + 1) w′ l‴ to′
+comes-in dt world w w′ l l′ l″ l‴ at i n to to′ trip kind leader r lamps x m total distance c k en et t ek lead er wk told em eo ed h ec ew el eto =
+    let e = moves dt w i n trip kind leader r lamps (en ∙ rw (count-kept k)) et t (kind-of (w .lines) (carAt (w .cars) i .line) kind ek) lead er wk in
+    let f = left-at-stop w i n trip kind (r .position) (r .velocity) (r .arrived) lamps (x .count) m total distance c h (told .count) em eo ed ec in
+    more k e (ew ∙ f) (rw (el, eto) (told .wrote))
+
+-- it rests
+pub stays : (dt : Float) (world w w′ : World) (l l′ l‴ : List ℕ) (at i to to′ : ℕ) (trip : Trip) → Moves (moveOf dt) world l at i w l′ to
+    → trip ≡ tripOf (carAt (w .cars) i) → isTrip trip ≡ false → w′ ≡ w → l‴ ≡ l′ → to′ ≡ to → Moves (moveOf dt) world l at (i + 1) w′ l‴ to′
+stays dt world w w′ l l′ l‴ at i to to′ trip k et h ew el eto = more k (rests dt w i trip et h) (ew ∙ left-at-rest w i) (rw (el, eto) wrote-none)

@@ -1,2 +1,3 @@
 pub mod Passing
 pub mod Movement
+pub mod Parts

@@ -1,6 +1,5 @@
 -- The cars move: systems/movement.rs, run and tick_manual.
-use mathlib.Core.Path.{_≡_}
-use mathlib.Core.Bool.{Bool, true, false, cond}
+use mathlib.Core.Bool.{false, cond}
 use mathlib.Core.List.{List, [], _∷_}
 use Prim.Native.Nat.{ℕ, min}
 use lib.ListN.{length}
@@ -17,7 +16,6 @@ use Rattle.world.specs.declared.StopOption.the-variants.{NoStop, Stop}
 use Rattle.world.specs.declared.TickOption.the-variants.{AtTick}
 use Rattle.lookup.specs.Sorted.{sortedStops}
 use Rattle.log.specs.Words.{wordOf}
-use Rattle.log.specs.Log.{Wrote}
 use Rattle.log.specs.declared.Event.the-variants.{ElevatorArrived, ElevatorRepositioned, ElevatorIdle}
 use Rattle.steps.specs.Steps.{plus, lineOf, lampsOf, bothLit, updateIndicators, withMoved, withArrived, Step, Run, notOpened, runCars}
 use Rattle.steps.specs.declared.Lamps.{Lamps}
@@ -29,7 +27,6 @@ use Rattle.trips.specs.declared.span.Span.{Span}
 use Rattle.trips.specs.declared.Trip.{Trip}
 use Rattle.trips.specs.declared.Trip.the-variants.{Rests, Drives, GoesTo, Repositions}
 use Rattle.movement_system.specs.Passing.{passed, passingWords}
-use Rattle.movement_system.specs.declared.cars.Turned.{Turned}
 
 -- ---- what the turn leaves
 
@@ -101,13 +98,6 @@ turnBy Rests i kind stops n tick total distance c r work = record { car = c; wor
 turnBy Drives i kind stops n tick total distance c r work = drives i kind stops n total distance c r
 turnBy (GoesTo s) i kind stops n tick total distance c r work = goesTo i kind stops n total distance c r s work
 turnBy (Repositions s) i kind stops n tick total distance c r work = repositions i kind stops n tick total distance c r s
-
--- a turn made by code
-pub record Turns (s : Step) (l : List ℕ) (at : ℕ) (l′ : List ℕ) (r : Turned) : Type 0 where
-  pub car : r .car ≡ s .car
-  pub total : r .total ≡ s .total
-  pub distance : r .distance ≡ s .distance
-  pub wrote : Wrote l at (s .words) l′ (r .at)
 
 -- ---- run
 

@@ -10,6 +10,7 @@ use Rattle.motion.specs.Movement.{fma, tickMovement, tickMovementCyclic, headwa
 use Rattle.motion.specs.declared.movement.MovementResult.{MovementResult}
 use Rattle.world.specs.World.{stopAt}
 use Rattle.world.specs.declared.Car.{Car}
+use Rattle.world.specs.declared.Motion.{Motion}
 use Rattle.world.specs.declared.LineKind.{LineKind}
 use Rattle.world.specs.declared.LineKind.the-variants.{Linear, Loop}
 use Rattle.world.specs.declared.SpeedOption.{SpeedOption}
@@ -36,12 +37,11 @@ effectiveTarget NoLeader pos target headway circumference = target
 effectiveTarget (At leader) pos target headway circumference = headwayClampTarget pos leader target headway circumference
 
 -- run, `result`
-abbrev pub resultBy : LineKind → LeaderOption → Car → Float → Float → MovementResult
-resultBy Linear leader c target dt =
-    tickMovement (c .motion .position) (c .motion .velocity) target (maxSpeed c) (c .motion .acceleration) (c .motion .deceleration) dt
-resultBy (Loop circumference headway) leader c target dt =
-    tickMovementCyclic (c .motion .position) (c .motion .velocity) (effectiveTarget leader (c .motion .position) target headway circumference) (maxSpeed c)
-    (c .motion .acceleration) (c .motion .deceleration) dt circumference
+abbrev pub resultBy : LineKind → LeaderOption → Motion → Float → Float → Float → MovementResult
+resultBy Linear leader m speed target dt = tickMovement (m .position) (m .velocity) target speed (m .acceleration) (m .deceleration) dt
+resultBy (Loop circumference headway) leader m speed target dt =
+    tickMovementCyclic (m .position) (m .velocity) (effectiveTarget leader (m .position) target headway circumference) speed (m .acceleration)
+    (m .deceleration) dt circumference
 
 -- manual_target_velocity.unwrap_or(0.0)
 abbrev pub wantedSpeed : SpeedOption → Float
@@ -81,5 +81,5 @@ driven kind leader c dt = drivenBy kind leader (c .motion .position) (fma (manua
 abbrev pub landing : Trip → LineKind → LeaderOption → Car → List Float → Float → MovementResult
 landing Rests kind leader c stops dt = drivenTo (c .motion .position) (c .motion .velocity)
 landing Drives kind leader c stops dt = driven kind leader c dt
-landing (GoesTo s) kind leader c stops dt = resultBy kind leader c (stopAt stops s) dt
-landing (Repositions s) kind leader c stops dt = resultBy kind leader c (stopAt stops s) dt
+landing (GoesTo s) kind leader c stops dt = resultBy kind leader (c .motion) (maxSpeed c) (stopAt stops s) dt
+landing (Repositions s) kind leader c stops dt = resultBy kind leader (c .motion) (maxSpeed c) (stopAt stops s) dt

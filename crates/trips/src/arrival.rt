@@ -150,17 +150,7 @@ pub fn popped(car: Car, s: u8) -> Queue
     }
 }
 
-// A loop car's lamps stay as they are.
-pub fn arrival_lamps(kind: LineKind, work: Lamps, car: Car) -> Lamps
-    ensures { λ r. ⌜ r ≡ Arrival.arrivalLamps kind work car ⌝ }
-{
-    match kind {
-        LineKind::Linear => work,
-        LineKind::Loop { .. } => lamps_of(car),
-    }
-}
-
-// Whether a turn asks for direction_from_remaining_work: it comes to a stop of a linear line.
+// Whether a turn asks for direction_from_remaining_work: it comes to a stop of a linear line. A loop car's lamps stay as they are.
 pub fn asks_work(trip: Trip, kind: LineKind, arrived: bool) -> bool
     ensures { λ r. ⌜ r ≡ Arrival.asksWork trip kind arrived ⌝ }
 {

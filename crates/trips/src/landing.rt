@@ -16,6 +16,7 @@ use motion::movement::tick_movement_cyclic;
 use steps::is_inspection;
 use world::Car;
 use world::LineKind;
+use world::Motion;
 use world::SpeedOption;
 
 const EPSILON: f64 = 1e-9;
@@ -48,11 +49,16 @@ fn effective_target(
 }
 
 // run, `result`.
-fn result_by(kind: LineKind, leader: LeaderOption, car: Car, target: f64, dt: f64) -> MovementResult
-    ensures { λ r. ⌜ r ≡ Landing.resultBy kind leader car target dt ⌝ }
+fn result_by(
+    kind: LineKind,
+    leader: LeaderOption,
+    m: Motion,
+    max_speed: f64,
+    target: f64,
+    dt: f64,
+) -> MovementResult
+    ensures { λ r. ⌜ r ≡ Landing.resultBy kind leader m «max_speed» target dt ⌝ }
 {
-    let m = car.motion;
-    let max_speed = max_speed(car);
     match kind {
         LineKind::Linear => tick_movement(
             m.position,
@@ -190,11 +196,13 @@ pub fn landing(
 ) -> MovementResult
     ensures { λ r. ⌜ r ≡ Landing.landing trip kind leader car (now (stops .entry)) dt ⌝ }
 {
+    let m = car.motion;
     match trip {
-        Trip::Rests => driven_to(car.motion.position, car.motion.velocity),
+        Trip::Rests => driven_to(m.position, m.velocity),
         Trip::Drives => driven(kind, leader, car, dt),
-        Trip::GoesTo(s) => result_by(kind, leader, car, stop_position(stops, s), dt),
-        Trip::Repositions(s) => result_by(kind, leader, car, stop_position(stops, s), dt),
+        Trip::GoesTo(s) | Trip::Repositions(s) => {
+            result_by(kind, leader, m, max_speed(car), stop_position(stops, s), dt)
+        }
     }
 }
 
