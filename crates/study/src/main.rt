@@ -122,13 +122,10 @@ fn with_words(
     let mut next = study;
     let mut from: usize = 0;
     while from < end {
-        if !enough(end - from, ended) {
+        if !(next.goes_on & enough(end - from, ended)) {
             return Played { study: next, from };
         }
         next = with_record(next, &words[from..end], log, out);
-        if !next.goes_on {
-            return Played { study: next, from };
-        }
         from = after(from, next.used, end);
     }
     Played { study: next, from }
@@ -156,10 +153,11 @@ fn bytes_of(words: usize) -> usize {
     at_most(words, 0x1000_0000) * 4
 }
 
-// The study after a piece of the input, and how many of the piece's bytes are kept.
+// The study after a piece of the input, how many of the piece's bytes are kept, and whether there is an end to it.
 struct Read {
     study: Study,
     held: usize,
+    ended: bool,
 }
 
 // The piece's first `total` bytes.
@@ -178,49 +176,64 @@ fn with_piece(
     let played = with_words(study, words, count, ended, log, out);
     let held = keep(piece, bytes_of(played.from), end);
     let next = played.study;
-    Read { study: next, held }
+    Read {
+        study: next,
+        held,
+        ended: ended | !next.goes_on,
+    }
 }
 
-// The end of the input: the report, or a refusal where bytes are left over.
-fn with_end(study: Study, held: usize, out: &mut [u8]) -> Study {
-    let world = study.world;
-    let counts = study.counts;
-    stopped(study, finish(world, counts, held, out, study.at))
+// What a read gave: so many bytes, none at the input's end.
+struct Got {
+    count: usize,
+    failed: bool,
 }
 
-// Reads once more, behind the bytes that are kept, and does the records that are whole then.
+// Reads once, behind the bytes that are kept.
+fn read_more(piece: &mut [u8], held: usize) -> Got {
+    let from = at_most(held, piece.len());
+    let got = libc::read(STDIN_FILENO, &mut piece[from..]);
+    Got {
+        count: io::count(got, &piece[from..]),
+        failed: got < 0,
+    }
+}
+
+// Reads once more, and does the records that are whole then.
 fn with_read(
-    study: Study,
-    held: usize,
+    read: Read,
     piece: &mut [u8],
     words: &mut [u32],
     log: &mut [u32],
     out: &mut [u8],
 ) -> Read {
-    let from = at_most(held, piece.len());
-    let got = libc::read(STDIN_FILENO, &mut piece[from..]);
-    if got < 0 {
+    let study = read.study;
+    let got = read_more(piece, read.held);
+    if got.failed {
         io::write_all(STDERR_FILENO, b"study: cannot read standard input\n");
         return Read {
             study: stopped(study, study.at),
             held: 0,
+            ended: true,
         };
     }
-    let n = io::count(got, &piece[from..]);
-    let read = with_piece(study, piece, from + n, n == 0, words, log, out);
-    let next = read.study;
-    if next.goes_on & (n == 0) {
-        return Read {
-            study: with_end(next, read.held, out),
-            held: 0,
-        };
-    }
-    read
+    let total = std::num::wrapping_add_usize(read.held, got.count);
+    with_piece(study, piece, total, got.count == 0, words, log, out)
 }
 
-// The input to its end. Answers the place in the output's buffer. No run makes so many reads.
-fn with_input(piece: &mut [u8], words: &mut [u32], log: &mut [u32], out: &mut [u8]) -> usize {
-    let mut read = Read {
+// The end: the report, or a refusal where bytes are left over. After a refusal and a failure there is no report.
+fn with_end(read: Read, out: &mut [u8]) -> usize {
+    let study = read.study;
+    if !study.goes_on {
+        return study.at;
+    }
+    let world = study.world;
+    let counts = study.counts;
+    finish(world, counts, read.held, out, study.at)
+}
+
+fn begun() -> Read {
+    Read {
         study: Study {
             world: empty(),
             counts: no_counts(),
@@ -229,14 +242,19 @@ fn with_input(piece: &mut [u8], words: &mut [u32], log: &mut [u32], out: &mut [u
             goes_on: true,
         },
         held: 0,
-    };
+        ended: false,
+    }
+}
+
+// The input to its end. Answers the place in the output's buffer. No run makes so many reads.
+fn with_input(piece: &mut [u8], words: &mut [u32], log: &mut [u32], out: &mut [u8]) -> usize {
+    let mut read = begun();
     let mut reads = u64::MAX;
     while 0 < reads {
-        let study = read.study;
-        if !study.goes_on {
-            return study.at;
+        read = with_read(read, piece, words, log, out);
+        if read.ended {
+            return with_end(read, out);
         }
-        read = with_read(study, read.held, piece, words, log, out);
         reads -= 1;
     }
     0
