@@ -12,7 +12,8 @@ use Rattle.world.specs.declared.World.{World}
 use Rattle.log.specs.ReadBack.{kindOf, carOf}
 use Rattle.tick.specs.Counters.{isMove, movesIn, sumTo}
 use Rattle.record.specs.Calls.{Call, next, worldAfter}
-use Rattle.certificate.specs.Certificate.{NoManual, DoorsHold, told, joined, Is, LogHolds, wordsOf, ThirdCondition}
+use Rattle.report.specs.Report.{howMany}
+use Rattle.certificate.specs.Certificate.{NoManual, DoorsHold, told, joined, Is, LogHolds, ThirdCondition}
 use Rattle.certificate.proofs.Watch.{openAfter, Calm, is, isMoveOf, calm-between}
 use Rattle.certificate.proofs.Records.{Keeps, Kept, call-kept}
 
@@ -73,8 +74,8 @@ one-kind k n = go (eqb k 1) (eqb k 2) (eqb k 3) refl refl refl
     go true false true p q r = absurd (omega (arith, eqb-true k 1 p, eqb-true k 3 r))
     go false true true p q r = absurd (omega (arith, eqb-true k 2 q, eqb-true k 3 r))
 
-counts : (log : List ℕ) → movesIn log ≡ wordsOf 1 log + wordsOf 2 log + wordsOf 3 log
-unfolding movesIn wordsOf
+counts : (log : List ℕ) → movesIn log ≡ howMany 1 log + howMany 2 log + howMany 3 log
+unfolding movesIn howMany
 counts [] = refl
 counts (w ∷ ws) = one-kind (kindOf w) (movesIn ws) ∙ omega (arith, counts ws)
 
