@@ -9,6 +9,7 @@ use play::finish;
 use play::play_record;
 use report::Counts;
 use report::no_counts;
+use study_text::keep;
 use study_text::words_of;
 use world::World;
 use world::empty::empty;
@@ -129,23 +130,6 @@ fn with_words(
         from = after(from, next.used, end);
     }
     Played { study: next, from }
-}
-
-// Moves the bytes from `from` up to `end` to the start. Answers how many.
-fn keep(piece: &mut [u8], from: usize, end: usize) -> usize {
-    if piece.len() < end {
-        return 0;
-    }
-    if end < from {
-        return 0;
-    }
-    let left = end - from;
-    let mut i: usize = 0;
-    while i < left {
-        piece[i] = piece[from + i];
-        i += 1;
-    }
-    left
 }
 
 // The bytes of a word, so many times.
