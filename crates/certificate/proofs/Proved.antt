@@ -7,11 +7,10 @@ use Prim.Native.Nat.{ℕ, suc, _+_}
 use native.Mathlib.Omega.{arith}
 use lib.Dec.{eqb}
 use borrow.Author.Tests.{eqb-true, eq-eqb}
-use Rattle.world.specs.World.{emptyWorld}
 use Rattle.world.specs.declared.World.{World}
 use Rattle.log.specs.ReadBack.{kindOf, carOf}
 use Rattle.tick.specs.Counters.{isMove, movesIn, sumTo}
-use Rattle.record.specs.Calls.{Call, next, worldAfter}
+use Rattle.record.specs.Calls.{Empty, Call, next, worldAfter}
 use Rattle.report.specs.Report.{howMany}
 use Rattle.certificate.specs.Certificate.{NoManual, DoorsHold, told, joined, Is, LogHolds, ThirdCondition}
 use Rattle.certificate.proofs.Watch.{openAfter, Calm, is, isMoveOf, calm-between}
@@ -31,11 +30,11 @@ calls-kept (c ∷ cs) w j h q =
     let a : After (next w c) cs (j ++ told w c) = calls-kept cs (next w c) (j ++ told w c) (k .keeps) (q .1) in
     record { keeps = rw (← append-assoc j (told w c) (joined (next w c) cs)) (a .keeps); doors = (λ t i l. k .stands t i, a .doors) }
 
-empty-keeps : Keeps [] emptyWorld
-unfolding emptyWorld openAfter Calm movesIn sumTo
-empty-keeps = (
-  record { full = refl; few = omega arith; fit = λ i l. absurd (omega arith); fresh = λ i l. refl; calm = λ i. tt },
-  record { cars = refl; words = refl },
+empty-keeps : (w : World) → Empty w → Keeps [] w
+unfolding openAfter Calm movesIn sumTo
+empty-keeps w e = (
+  record { full = e .places; few = omega (arith, e .cars); fit = λ i l. absurd (omega (arith, e .cars, l)); fresh = λ i l. refl; calm = λ i. tt },
+  record { cars = e .moves ∙ rw (e .cars); words = e .moves },
 )
 
 -- ---- the paper's words
@@ -81,10 +80,10 @@ counts (w ∷ ws) = one-kind (kindOf w) (movesIn ws) ∙ omega (arith, counts ws
 
 pub third-condition : ThirdCondition
 unfolding ThirdCondition
-third-condition calls q =
-    let a : After emptyWorld calls [] = calls-kept calls emptyWorld [] empty-keeps q in
+third-condition w e calls q =
+    let a : After w calls [] = calls-kept calls w [] (empty-keeps w e) q in
     record {
       doors = a .doors;
-      log = log-holds (joined emptyWorld calls) (a .keeps .0 .calm);
-      totals = record { cars = a .keeps .1 .cars; words = a .keeps .1 .words ∙ counts (joined emptyWorld calls) };
+      log = log-holds (joined w calls) (a .keeps .0 .calm);
+      totals = record { cars = a .keeps .1 .cars; words = a .keeps .1 .words ∙ counts (joined w calls) };
     }

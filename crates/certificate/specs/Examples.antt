@@ -6,7 +6,7 @@ use Prim.Native.Nat.{ℕ}
 use lib.ListN.{replicate}
 use Rattle.door.specs.Door.{isClosed}
 use Rattle.world.specs.World.{carAt, emptyWorld}
-use Rattle.record.specs.Calls.{Call, worldAfter}
+use Rattle.record.specs.Calls.{Empty, Call, worldAfter}
 use Rattle.certificate.specs.Certificate.{isTick, NoManual, DoorsHold, joined, LogHolds}
 
 -- ---- calls, each with a log of n words that holds sevens before
@@ -61,7 +61,8 @@ manual =
     ∷ call (0x8000_0000 ∷ []) ∷ call half ∷ call (0x6000_0003 ∷ []) ∷ call (0x7000_0001 ∷ 0x3ff0_0000 ∷ 0 ∷ []) ∷ call half ∷ []
 
 pub record Examples : Type 0 where
-  -- the condition speaks of the tape, in which a car arrives, opens, closes, passes a stop and is repositioned; three moves
+  -- the condition speaks of the tape from the empty world; in it a car arrives, opens, closes, passes a stop and is repositioned; three moves
+  pub empty : Empty emptyWorld
   pub tame : NoManual emptyWorld tape
   pub log : joined emptyWorld tape
       ≡ 0x0000_0000 ∷ 0x2001_0000 ∷ 0x6000_0000 ∷ 0x0000_0001 ∷ 0x0000_0002 ∷ 0x7000_0000 ∷ 0x0000_0003

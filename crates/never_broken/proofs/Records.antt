@@ -39,12 +39,19 @@ use Rattle.loads.specs.Loads as Loads
 use Rattle.loads.specs.Loads.{notNext, noSuchCar, countWith, lineRow, lineChecks, stopChecks, carChecks, riderChecks, startChecks, loadLine, loadStop, loadCar, loadRider, start}
 use Rattle.loads.specs.declared.Changed.{Changed}
 use Rattle.orders.specs.Orders.{sendChecks, orderChecks, commandChecks, callChecks, destinationChecks, sent, inMode, atSpeed, commanded, destined, marked, send, setMode, setManualSpeed, queueCommand, pressHallCall, pushDestination, setEnabled}
-use Rattle.record.specs.Record.{Outcome, numberOf, refused, unless, changed, tickChecks, ticked, tickOnce, taken, readBy, recordOf}
+use Rattle.record.specs.declared.Answer.{Answer}
+use Rattle.record.specs.declared.Answer.the-variants.{Accepted, Refused}
+use Rattle.record.specs.Record.{Outcome, refused, unless, changed, tickChecks, ticked, tickOnce, taken, readBy, recordOf}
 use Rattle.tick.proofs.Passed.{both, cases}
 use Rattle.never_broken.proofs.Numbers.{table-set, line-stays, rider-stays, press-stays}
 use Rattle.never_broken.proofs.Turns.{QueueIn, CarIn, car-in-stays}
 use Rattle.never_broken.proofs.Worlds.{CarsIn, RidersIn, Sound, cars-set, counters-set, tick-sound}
 use Rattle.never_broken.proofs.Whole.{whole}
+
+-- the number of a refusal; 13 stands for an accepted record
+abbrev pub numberOf : Answer → ℕ
+numberOf (Accepted used written) = 13
+numberOf (Refused r) = refusalNumber r
 
 -- an outcome whose world is sound and whose answer is not refusal 0
 pub record Good (o : Outcome) : Type 0 where

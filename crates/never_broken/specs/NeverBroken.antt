@@ -2,18 +2,17 @@
 use mathlib.Core.Path.{_≡_}
 use mathlib.Core.Bool.{false}
 use mathlib.Core.List.{List}
-use Rattle.world.specs.World.{emptyWorld}
 use Rattle.world.specs.Sound.{broken}
 use Rattle.world.specs.declared.World.{World}
 use Rattle.world.specs.declared.refusal.Refusal.the-variants.{BrokenWorld}
 use Rattle.record.specs.declared.Answer.the-variants.{Refused}
-use Rattle.record.specs.Calls.{Call, outcome, worldAfter}
+use Rattle.record.specs.Calls.{Empty, Call, outcome, worldAfter}
 
--- a world that refusal 0 is not about: so no call, whatever its words and log, is answered by it there
+-- a world that is not broken, so that no call in it, whatever its words and log, is refused 0
 pub record Unbroken (w : World) : Type 0 where
   pub world : broken w ≡ false
   pub answer : (c : Call) → outcome w c .answer ≡ Refused BrokenWorld → ⊥
 
--- every list of calls from the empty world leaves such a world: any words, any logs, Manual mode too
+-- every list of calls from an empty world leaves such a world: any words, any logs, Manual mode too
 unfoldable pub NeverBroken : Type 0
-NeverBroken = (calls : List Call) → Unbroken (worldAfter emptyWorld calls)
+NeverBroken = (w : World) → Empty w → (calls : List Call) → Unbroken (worldAfter w calls)

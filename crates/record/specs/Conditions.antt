@@ -23,7 +23,7 @@ use Rattle.record.specs.declared.Answer.{Answer}
 use Rattle.record.specs.declared.Answer.the-variants.{Accepted, Refused}
 use Rattle.record.specs.Record.{Outcome, isAccepted, usedOf, writtenOf, tickChecks, recordOf}
 
--- ---- the first condition
+-- ---- the certificate's first condition. "An accepted record or one numbered refusal" is the type of the answer; that every call ends is in the contract of `record`, as of every function.
 
 -- what a call with this world, these words and this log gives
 pub record Kept (w : World) (words lent : List ℕ) (o : Outcome) : Type 0 where
@@ -43,7 +43,7 @@ pub record Kept (w : World) (words lent : List ℕ) (o : Outcome) : Type 0 where
 unfoldable pub FirstCondition : Type 0
 FirstCondition = (w : World) (words log : List ℕ) → Kept w words log (recordOf w words log)
 
--- ---- "A refusal is given on its condition and on no other"
+-- ---- "A refusal is given on its condition and on no other": what each condition is, `tape`, `loads` and `orders` say; here is their order, and that nothing else refuses
 
 -- the conditions that the state brings, in the order of their numbers
 abbrev pub stateChecks : World → List ℕ → List ℕ → Record → List Check
@@ -71,7 +71,7 @@ checksIn w log k [] = check UnknownKind true ∷ []
 checksIn w log k (t ∷ ts) =
     cond (eqb k (t .number)) (t .deed .checks ++ behind w log (t .deed .done .serves) (t .deed .done .read)) (checksIn w log k ts)
 
--- all conditions of a call, "in the order of the numbers, 2 before a short body"
+-- all conditions of a call, "in the order of the numbers, 2 before a short body"; "A line's count outside its codes is found before the body is measured."
 unfoldable pub conditions : World → List ℕ → List ℕ → List Check
 conditions w words log =
     check BrokenWorld (broken w)

@@ -8,7 +8,7 @@ use lib.ListN.{length}
 use lib.Seq.{sets}
 use lib.Ieee.{Float}
 use Rattle.world.specs.Sound.{broken}
-use Rattle.world.specs.Refusal.{Check, check, refusalNumber}
+use Rattle.world.specs.Refusal.{Check, check}
 use Rattle.world.specs.declared.World.{World}
 use Rattle.world.specs.declared.refusal.Refusal.{Refusal}
 use Rattle.world.specs.declared.refusal.Refusal.the-variants.{BrokenWorld, NotNow, LastTick, LogShort}
@@ -28,7 +28,7 @@ use Rattle.record.specs.declared.Recorded.{Recorded}
 use Rattle.record.specs.declared.Answer.{Answer}
 use Rattle.record.specs.declared.Answer.the-variants.{Accepted, Refused}
 
--- ---- the answer: "an accepted record or one numbered refusal"
+-- ---- the answer: the certificate's "an accepted record or one numbered refusal"; refusalNumber of `world` gives the numbers
 
 abbrev pub isAccepted : Answer → Bool
 isAccepted (Accepted used written) = true
@@ -43,11 +43,6 @@ usedOf (Refused r) = 0
 abbrev pub writtenOf : Answer → ℕ
 writtenOf (Accepted used written) = written
 writtenOf (Refused r) = 0
-
--- the paper's number of a refusal; an accepted record has none, and this gives 13
-abbrev pub numberOf : Answer → ℕ
-numberOf (Accepted used written) = 13
-numberOf (Refused r) = refusalNumber r
 
 -- ---- what a call gives
 
