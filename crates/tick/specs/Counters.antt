@@ -50,6 +50,6 @@ pub record Counts (w : World) (dt : Float) : Type 0 where
   pub total : tickWorld w dt .«total_moves» ≡ w .«total_moves» + movesIn (tickWords w dt)
   pub ticks : tickWorld w dt .ticks ≡ w .ticks + 1
 
--- "a made-up move or passing count" is shut out, and `plus` is `+` wherever a tick uses it (the total on its way, a cooldown's tick + 240 too)
+-- "a made-up move or passing count" is shut out. `plus` is `+` for the numbers that a tick adds: the counters, the total on its way, a cooldown's tick + 240
 unfoldable pub NothingWraps : Type 0
 NothingWraps = ((a b : ℕ) → a < 2 ^ 49 → b ≤ 2 ^ 48 → plus a b ≡ a + b) × ((w : World) (dt : Float) → Low w → Counts w dt)
