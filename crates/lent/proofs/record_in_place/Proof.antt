@@ -1,4 +1,4 @@
--- `lent::record_in_place` meets its contract, by the law of `thin`. All that the proof knows of `record` is that it meets its contract.
+-- `lent::record_in_place` meets its contract, by the law `walk-in-place` of `thin`. All that the proof knows of `record` is that it meets its contract.
 -- Assumes nothing.
 use mathlib.Core.Path.{_≡_, refl, ap}
 use Prim.Native.Nat.{ℕ}
@@ -192,7 +192,7 @@ module _ {M : Type 1} (𝓤 : URA M) (H : Heap 𝓤) (A : Atoms 𝓤) (W : Given
   module _ (C : Calls 𝓤 H) (Λ : Loops 𝓤 H) (fm : FmC 𝓤 H (W .laws) C) (known : Triple 𝓤 (C #record·record) (Rec 𝓤 H A at-mem run)) where
     walk : Is (ShrSlice (named 1) κ₁ u32) s (vs ∷ []) → Room u32 (length (t .now)) → ent 𝓤 (onEntry 𝓤 H A f.signature (κ, (κ₁, (κ₂, tt))) (q, (q₁, (q₂, tt))) a vals) (WpFn 𝓤 H C Λ code.function (vptr b o ∷ vs ∷ vt ∷ []) Post)
     walk p room = via 𝓤 _ enters
-        (law.walk World T′.mir (T.the-row .written) (T.the-row .reaches) (T.the-row .own) (T.the-row .exit) (T.the-row .coded) 𝓤 H A W (λ d. only (LL.vals T.the-type T′.the-laws d)) (LL.tells T.the-type T′.the-laws) (λ d u is. LL.lawful T.the-type T′.the-laws 𝓤 H A W .typed d _ is .0)
+        (law.walk-in-place World T′.mir (T.the-row .written) (T.the-row .reaches) (T.the-row .own) (T.the-row .exit) (T.the-row .coded) 𝓤 H A W (λ d. only (LL.vals T.the-type T′.the-laws d)) (LL.tells T.the-type T′.the-laws) (λ d u is. LL.lawful T.the-type T′.the-laws 𝓤 H A W .typed d _ is .0)
         (LL.makes T.the-type T′.the-plain 𝓤 H A) S′.mir (R.struct .name) #record·record C Λ fm κ q b o γ h vs (t .ptr) (length (t .now)) Rest (‵ OwnS) (Rec 𝓤 H A at-mem run .pre to) (Rec 𝓤 H A at-mem run .post to) Y (λ y. vB (y .r)) (λ y. vT (y .r)) (λ y. y .r .world) Has Post
         (shr-slice-lawful 𝓤 H A W (named 1) κ₁ u32 .typed s (vs ∷ []) p .0) (room .0) (known to) goes gives (λ y. EL.lawful S.the-type S′.the-laws 𝓤 H A W tt .typed (y .r .answer) _ (is-answer (y .r) (y .w) (y .is)) .0) (λ y. is-world (y .r) (y .w) (y .is)) exits-at)
 

@@ -1,4 +1,4 @@
--- `lent::turn` meets its contract, by the law of `thin` for a function that lends a world of its own. All that the proof knows of `record_in_place` is that it meets its contract.
+-- `lent::turn` meets its contract, by the law `walk-keeping` of `thin`. All that the proof knows of `record_in_place` is that it meets its contract.
 -- Assumes nothing.
 use mathlib.Core.Path.{_≡_, refl, ap, subst}
 use Prim.Native.Nat.{ℕ}
