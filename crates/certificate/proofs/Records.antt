@@ -42,7 +42,7 @@ use Rattle.tick.specs.Counters.{sumTo}
 use Rattle.tick.proofs.Passed.{both, cases}
 use Rattle.tick.proofs.Proved.{words-fit}
 use Rattle.record.specs.Record.{Outcome, isAccepted, accepted, refused, unless, changed, tickChecks, ticked, tickOnce, taken, readBy, recordOf}
-use Rattle.record.specs.Calls.{Call, outcome, next, headOf}
+use Rattle.record.specs.Calls.{Call, outcome, next, headWord}
 use Rattle.certificate.specs.Certificate.{isTick, putsManual, positionOf, told}
 use Rattle.certificate.proofs.Watch.{openAfter, told-none}
 use Rattle.certificate.proofs.Turns.{Sound, idle, stopped, moving, repositioning, opening, loading, closing, Fit}
@@ -171,7 +171,7 @@ wrote ws log h = rw (sets-eq ws log 0 (omega arith)) (take-at ws (drop (0 + leng
 
 module _ (w : World) (c : Call) (j : List ℕ) (h : Keeps j w) (used : ℕ) where
   -- no tick, and the world keeps what is held
-  quiet : (o : Outcome) → isAccepted (o .answer) && eqb (kindOf (headOf c)) 12 ≡ false → Keeps j (o .world) → Gives w c j o
+  quiet : (o : Outcome) → isAccepted (o .answer) && eqb (kindOf (headWord c)) 12 ≡ false → Keeps j (o .world) → Gives w c j o
   quiet o t k e =
       let it : isTick w c ≡ false = rw e t in
       kept w c j [] o (rw it refl) (rw (append-nil j) k) (λ (q : isTick w c ≡ true). no (sym it ∙ q)) e
@@ -180,24 +180,24 @@ module _ (w : World) (c : Call) (j : List ℕ) (h : Keeps j w) (used : ℕ) wher
   refuses r = quiet (refused w (c .log) r) refl h
 
   -- a record that is no tick
-  plain : (cs : List Check) (v : World) → eqb (kindOf (headOf c)) 12 ≡ false → (Passed cs → Keeps j v) → Gives w c j (changed (c .log) used (Loads.unless cs w v))
+  plain : (cs : List Check) (v : World) → eqb (kindOf (headWord c)) 12 ≡ false → (Passed cs → Keeps j v) → Gives w c j (changed (c .log) used (Loads.unless cs w v))
   plain cs v t k = changed-cases (Gives w c j) cs w v (c .log) used refuses (λ q. quiet (accepted used 0 v (c .log)) t (k q))
 
   module _ (dt : Float) where
-    ticks : Unbroken w → eqb (kindOf (headOf c)) 12 ≡ true → length (tickWords w dt) ≤ length (c .log) → Gives w c j (ticked w (c .log) used dt)
+    ticks : Unbroken w → eqb (kindOf (headWord c)) 12 ≡ true → length (tickWords w dt) ≤ length (c .log) → Gives w c j (ticked w (c .log) used dt)
     ticks u t room e =
         let it : isTick w c ≡ true = rw e t in
         let words : told w c ≡ tickWords w dt = rw (it, e) (wrote (tickWords w dt) (c .log) room) in
         let k : Ticks w dt j = tick-ticks w dt j (h .0) in
         kept w c j (tickWords w dt) (ticked w (c .log) used dt) words (k .held, tick-sums w dt j (u .few) (k .count) (u .low) (h .1)) (λ _. k .stands) e
 
-    tick-kept : Unbroken w → eqb (kindOf (headOf c)) 12 ≡ true → Gives w c j (tickOnce w (c .log) used dt)
+    tick-kept : Unbroken w → eqb (kindOf (headWord c)) 12 ≡ true → Gives w c j (tickOnce w (c .log) used dt)
     unfolding tickOnce WordsFit
     tick-kept u t =
         unless-cases (Gives w c j) (tickChecks w (c .log)) w (c .log) (ticked w (c .log) used dt) refuses
         (λ q. ticks u t (omega (arith, words-fit w dt, ltb-false (length (c .log)) (roomOf w) (q .1 .1 .0))))
 
-  car-kept : (number line : ℕ) (motion : Motion) (transition opens : ℕ) → eqb (kindOf (headOf c)) 12 ≡ false
+  car-kept : (number line : ℕ) (motion : Motion) (transition opens : ℕ) → eqb (kindOf (headWord c)) 12 ≡ false
       → Gives w c j (changed (c .log) used (loadCar w number line motion transition opens))
   unfolding loadCar
   car-kept number line motion transition opens e =
@@ -211,7 +211,7 @@ module _ (w : World) (c : Call) (j : List ℕ) (h : Keeps j w) (used : ℕ) wher
         sum-new (newCar line motion transition opens) (h .1) (omega (arith, q, h .0 .full)) refl,
       )
 
-  send-kept : (car stop : ℕ) (reposition : Bool) → eqb (kindOf (headOf c)) 12 ≡ false → Gives w c j (changed (c .log) used (send w car stop reposition))
+  send-kept : (car stop : ℕ) (reposition : Bool) → eqb (kindOf (headWord c)) 12 ≡ false → Gives w c j (changed (c .log) used (send w car stop reposition))
   unfolding send
   send-kept car stop reposition e =
       plain (Orders.sendChecks w car stop) (withCar w car (Orders.sent mine stop reposition)) e
@@ -228,7 +228,7 @@ module _ (w : World) (c : Call) (j : List ℕ) (h : Keeps j w) (used : ℕ) wher
           (record { sound = send-sound stop reposition (mine .phase) (mine .door) (openAfter car false j) (f .sound) g; tame = f .tame }) refl
 
   -- an order that leaves phase and door
-  order : (cs : List Check) (car : ℕ) (d : Car) → eqb (kindOf (headOf c)) 12 ≡ false → (Passed cs → Loads.noSuchCar w car ≡ false)
+  order : (cs : List Check) (car : ℕ) (d : Car) → eqb (kindOf (headWord c)) 12 ≡ false → (Passed cs → Loads.noSuchCar w car ≡ false)
       → (Fit (carAt (w .cars) car) (openAfter car false j) → Fit d (openAfter car false j)) → d .«move_count» ≡ carAt (w .cars) car .«move_count»
       → Gives w c j (changed (c .log) used (Loads.unless cs w (withCar w car d)))
   order cs car d e known f m =
@@ -237,7 +237,7 @@ module _ (w : World) (c : Call) (j : List ℕ) (h : Keeps j w) (used : ℕ) wher
 
 -- a record that was read, where it puts no car into Manual mode
 module _ (w : World) (c : Call) (j : List ℕ) (h : Keeps j w) (p : putsManual w c ≡ false) (u : Unbroken w) (used : ℕ) (serves : List ℕ) where
-  taken-kept : (r : Record) → Says (headOf c) r → Gives w c j (taken w (c .log) used serves r)
+  taken-kept : (r : Record) → Says (headWord c) r → Gives w c j (taken w (c .log) used serves r)
   unfolding loadLine loadStop loadRider start setMode setManualSpeed queueCommand pressHallCall pushDestination setEnabled
   taken-kept (Record.Line number kind listed count) s =
       plain w c j h used (Loads.lineChecks w number (Loads.lineRow kind listed count serves)) _ s (λ q. h)
@@ -267,7 +267,7 @@ module _ (w : World) (c : Call) (j : List ℕ) (h : Keeps j w) (p : putsManual w
   taken-kept (Record.Tick dt) s = tick-kept w c j h used dt u s
   taken-kept Record.Start s = plain w c j h used (Loads.startChecks w) _ s (λ q. h)
 
-read-kept : (w : World) (c : Call) (j : List ℕ) → Keeps j w → putsManual w c ≡ false → Unbroken w → (serves : List ℕ) (r : Read) → Reads (headOf c) r
+read-kept : (w : World) (c : Call) (j : List ℕ) → Keeps j w → putsManual w c ≡ false → Unbroken w → (serves : List ℕ) (r : Read) → Reads (headWord c) r
     → Gives w c j (readBy w (c .log) serves r)
 read-kept w c j h p u serves (Read.Refused r) s = refuses w c j h 0 r
 read-kept w c j h p u serves (Read.Accepted read used) s = taken-kept w c j h p u used serves read s

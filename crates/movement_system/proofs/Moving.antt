@@ -20,7 +20,7 @@ use Rattle.world.specs.declared.LineKind.the-variants.{Linear, Loop}
 use Rattle.lookup.specs.declared.leader.LeaderOption.{LeaderOption}
 use Rattle.log.specs.Log.{Wrote}
 use Rattle.log.proofs.Writing.{also, wrote-none}
-use Rattle.steps.specs.Steps.{plus, Step, lineOf, lampsOf, stepped, notOpened, runTo}
+use Rattle.steps.specs.Steps.{plus, Step, lineOf, lampsOf, placed, stepped, notOpened, runTo}
 use Rattle.steps.specs.declared.Lamps.{Lamps}
 use Rattle.trips.specs.Trips.{isTrip, isLoop, tripOf}
 use Rattle.trips.specs.Landing.{leaderOf, landing}
@@ -104,39 +104,6 @@ put-put : (f g : Car → Car) (cs : List Car) (i : ℕ) → put g (put f cs i) i
 put-put f g [] i = refl
 put-put f g (x ∷ xs) zero = refl
 put-put f g (x ∷ xs) (suc i) = ap (λ (r : List Car). x ∷ r) (put-put f g xs i)
-
--- with a position, a velocity and a count of moves
-abbrev placed : Car → Float → Float → ℕ → Car
-placed c position velocity count = record {
-  line = c .line;
-  phase = c .phase;
-  door = c .door;
-  «service_mode» = c .«service_mode»;
-  enabled = c .enabled;
-  motion =
-      record {
-        position = position;
-        velocity = velocity;
-        «max_speed» = c .motion .«max_speed»;
-        acceleration = c .motion .acceleration;
-        deceleration = c .motion .deceleration;
-        «inspection_speed_factor» = c .motion .«inspection_speed_factor»;
-      };
-  «door_transition_ticks» = c .«door_transition_ticks»;
-  «door_open_ticks» = c .«door_open_ticks»;
-  «going_up» = c .«going_up»;
-  «going_down» = c .«going_down»;
-  «going_forward» = c .«going_forward»;
-  repositioning = c .repositioning;
-  «target_stop» = c .«target_stop»;
-  «manual_target_velocity» = c .«manual_target_velocity»;
-  «destination_queue» = c .«destination_queue»;
-  «destination_count» = c .«destination_count»;
-  «door_command_queue» = c .«door_command_queue»;
-  «command_count» = c .«command_count»;
-  «move_count» = count;
-  cooldown = c .cooldown;
-}
 
 -- one number after the other
 abbrev pub thrice : List Car → ℕ → Float → Float → ℕ → List Car

@@ -37,12 +37,12 @@ unfoldable pub next : World → Call → World
 next w c = outcome w c .world
 
 -- the call's head word
-abbrev pub headOf : Call → ℕ
-headOf c = getD (c .words) 0 0
+abbrev pub headWord : Call → ℕ
+headWord c = getD (c .words) 0 0
 
 -- an accepted record of that kind
 abbrev pub acceptedKind : ℕ → World → Call → Bool
-acceptedKind k w c = isAccepted (outcome w c .answer) && eqb (kindOf (headOf c)) k
+acceptedKind k w c = isAccepted (outcome w c .answer) && eqb (kindOf (headWord c)) k
 
 -- the world as the list leaves it
 unfoldable pub worldAfter : World → List Call → World

@@ -68,9 +68,9 @@ updateIndicators i was lamps =
 
 -- ---- a car with some of its fields changed
 
--- moved: its position and velocity, and so many moves more
-abbrev pub withMoved : Car → Float → Float → ℕ → Car
-withMoved c position velocity moves = record {
+-- with a position, a velocity and a count of moves
+abbrev pub placed : Car → Float → Float → ℕ → Car
+placed c position velocity count = record {
   line = c .line;
   phase = c .phase;
   door = c .door;
@@ -97,9 +97,13 @@ withMoved c position velocity moves = record {
   «destination_count» = c .«destination_count»;
   «door_command_queue» = c .«door_command_queue»;
   «command_count» = c .«command_count»;
-  «move_count» = plus (c .«move_count») moves;
+  «move_count» = count;
   cooldown = c .cooldown;
 }
+
+-- moved: its position and velocity, and so many moves more
+abbrev pub withMoved : Car → Float → Float → ℕ → Car
+withMoved c position velocity moves = placed c position velocity (plus (c .«move_count») moves)
 
 -- come to its stop: its phase, door, target, repositioning flag, lamps, queue and cooldown
 abbrev pub withArrived : Car → ElevatorPhase → DoorState → StopOption → Bool → Lamps → Queue → TickOption → Car
