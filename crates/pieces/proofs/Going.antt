@@ -18,7 +18,7 @@ use Rattle.report.specs.Report.{bit}
 use Rattle.study_text.specs.Text.{wordsOf}
 use Rattle.study_text.proofs.Putting.{take-min}
 use Rattle.play.specs.declared.Step.{Step}
-use Rattle.play.specs.Play.{told, countsAfter, StepOf, Stepped}
+use Rattle.play.specs.Play.{told, countsAfter, ending, Stepped}
 use Rattle.pieces.specs.Pieces.{Playing, after, nextRecord, whole, goes, playTo, ends, closed, close, advanced, playing, Gives}
 use Rattle.pieces.specs.Parts.{Reached, ClosesBy, Closes}
 use Rattle.pieces.specs.declared.Study.{Study}
@@ -208,6 +208,14 @@ words-of-count (x ∷ []) = omega arith
 words-of-count (x ∷ y ∷ []) = omega arith
 words-of-count (x ∷ y ∷ z ∷ []) = omega arith
 words-of-count (x ∷ y ∷ z ∷ u ∷ b) = omega (arith, words-of-count b)
+
+-- the tape's end, by the code's test
+pub at-end : (e : Bool) (s : Step) (left : ℕ) (out out′ : List ℕ) (at : ℕ) → e ≡ true → Wrote out (s .at) (ending (s .world) (s .counts) left) out′ at
+    → ClosesBy e s left out (record { at = at; over = true }) out′
+at-end e s left out out′ at t w = rw t (record { over = refl; text = w })
+
+pub not-at-end : (e : Bool) (s : Step) (left : ℕ) (out : List ℕ) → e ≡ false → ClosesBy e s left out (record { at = s .at; over = s .refused }) out
+not-at-end e s left out t = rw t (record { over = refl; text = wrote-none })
 
 -- the records, then the tape's end, then the bytes that are kept
 module _ (piece out lent′ out₁ out′ piece′ : List ℕ) (end : ℕ) (ended : Bool) (r : Played) (cl : Closed) (kept : ℕ) where
