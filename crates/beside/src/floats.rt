@@ -1,15 +1,15 @@
 // f64's methods and the formulas that motion does not export, on plain numbers.
 ghost use mathlib.Core.Path.{_≡_};
-ghost use Rattle.motion.specs.Float as Float;
+ghost use Rattle.float.specs.Float as Float;
 ghost use Rattle.motion.specs.Movement as Movement;
-use motion::float::abs;
-use motion::float::clamp;
-use motion::float::is_finite;
-use motion::float::max;
-use motion::float::min;
-use motion::float::rem_euclid;
-use motion::float::signum;
-use motion::float::total_before;
+use float::abs;
+use float::clamp;
+use float::is_finite;
+use float::max;
+use float::min;
+use float::rem_euclid;
+use float::signum;
+use float::total_before;
 use motion::fp::fma;
 use motion::movement::manual_velocity;
 

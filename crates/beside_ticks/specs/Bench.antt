@@ -5,8 +5,8 @@ use Prim.Native.Nat.{ℕ, zero, suc, _+_, _*_, _%_, min}
 use lib.Dec.{eqb}
 use lib.ListN.{length, set, replicate}
 use lib.Ieee.{Float, binary64, ofBits, add, sub, mul}
-use Rattle.motion.specs.Float as Float
-use Rattle.motion.specs.Float.{numberBits}
+use Rattle.float.specs.Float as Float
+use Rattle.float.specs.Float.{numberBits}
 use Rattle.world.specs.World.{carAt, emptyWorld}
 use Rattle.world.specs.declared.World.{World}
 use Rattle.world.specs.declared.Car.{Car}

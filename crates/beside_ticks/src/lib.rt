@@ -1,7 +1,7 @@
 // Ticks for the bench: 16 cars and 64 stops, a line or a loop, built by records' functions, run and summed up.
 ghost use mathlib.Core.Path.{_≡_};
 ghost use lib.ListN.{length};
-ghost use Rattle.motion.specs.Float.{numberBits};
+ghost use Rattle.float.specs.Float.{numberBits};
 ghost use Rattle.steps.specs.Steps.{plus};
 ghost use Rattle.beside_ticks.specs.Bench as Bench;
 use loads::load_car;

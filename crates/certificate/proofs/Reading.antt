@@ -9,7 +9,7 @@ use mathlib.Core.Logic.{_⊎_, ⊎-elim}
 use lib.Dec.{eqb, leb, ltb}
 use lib.ListN.{length, getD}
 use borrow.Author.Tests.{eqb-true, leb-false}
-use Rattle.motion.proofs.Cases.{yes}
+use Rattle.float.proofs.Cases.{yes}
 use Rattle.world.specs.World.{carAt, lineAt, riderAt}
 use Rattle.world.specs.Sound.{anyTo, carBroken, lineBroken, riderBroken, countsBroken, broken, unloaded, phaseUnloaded, stopUnloaded, callsUnloaded}
 use Rattle.world.specs.Refusal.{Check, check}

@@ -10,7 +10,7 @@ use lib.ListN.{length, set, take, drop, length-set}
 use lib.Seq.{getD-set-same, getD-set-other, sets, sets-eq, take-at}
 use lib.Ieee.{Float}
 use borrow.Author.Tests.{eqb-true, ltb-false, leb-false, not-false}
-use Rattle.motion.proofs.Cases.{no}
+use Rattle.float.proofs.Cases.{no}
 use Rattle.door.specs.Door.{isClosed}
 use Rattle.door.specs.declared.DoorState.{DoorState}
 use Rattle.door.specs.declared.DoorState.the-variants.{Closed}

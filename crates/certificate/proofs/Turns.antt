@@ -6,7 +6,7 @@ use Prim.Native.Nat.{ℕ, zero, suc, _+_, _-_, _*_, _<_, min}
 use lib.Dec.{leb}
 use lib.Ieee.{Float}
 use Rattle.motion.specs.declared.movement.MovementResult.{MovementResult}
-use Rattle.motion.proofs.Cases.{yes, no}
+use Rattle.float.proofs.Cases.{yes, no}
 use Rattle.door.specs.Door.{isClosed, tick}
 use Rattle.door.specs.declared.Ticked.{Ticked}
 use Rattle.door.specs.declared.DoorState.{DoorState}

@@ -10,10 +10,10 @@ use native.Mathlib.Omega.{arith}
 use lib.Dec.{eqb}
 use lib.Ieee.{Float}
 use borrow.Author.Tests.{eqb-true, eqb-false, eq-eqb, ne-eqb, not-true}
-use Rattle.motion.specs.Float.{totalBefore}
-use Rattle.motion.specs.Facts.{TotalOrder}
-use Rattle.motion.proofs.Cases.{no, and-left, and-right}
-use Rattle.motion.proofs.Total.{total-order}
+use Rattle.float.specs.Float.{totalBefore}
+use Rattle.float.specs.Facts.{TotalOrder}
+use Rattle.float.proofs.Cases.{no, and-left, and-right}
+use Rattle.float.proofs.Total.{total-order}
 use Rattle.world.specs.World.{carAt}
 use Rattle.lookup.specs.Leader.{positionOf, isOther, carAhead, leaderOr, leaderTo, leaderPos, loopLeaderPos, IsOther, Led, LeaderIsNearest}
 use Rattle.lookup.specs.Ahead.{aheadAfter, posOf}

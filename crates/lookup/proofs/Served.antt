@@ -6,7 +6,7 @@ use Prim.Native.Nat.{ℕ, zero, suc, _+_, _<_, _≤_, min}
 use native.Mathlib.Omega.{arith}
 use lib.ListN.{getD}
 use lib.Ieee.{Float, le}
-use Rattle.motion.specs.Float.{isFinite}
+use Rattle.float.specs.Float.{isFinite}
 use Rattle.motion.specs.Cyclic.{degenerate}
 use Rattle.world.specs.World.{stopAt}
 use Rattle.lookup.specs.Stops.{standsAt, firstStanding, findStopAtPosition, findStopAtPositionIn, aheadOf, nearer, nearestTo, stopOf, loopNextStopForward}

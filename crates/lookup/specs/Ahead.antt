@@ -1,7 +1,7 @@
 -- What the search of the leader holds: the nearest car's distance and position, in place of its number.
 use mathlib.Core.Bool.{cond}
 use lib.Ieee.{Float}
-use Rattle.motion.specs.Float.{totalBefore}
+use Rattle.float.specs.Float.{totalBefore}
 use Rattle.motion.specs.Cyclic.{forwardDistance}
 use Rattle.lookup.specs.declared.leader.Ahead.{Ahead}
 use Rattle.lookup.specs.declared.leader.Ahead.the-variants.{Nobody, Somebody}

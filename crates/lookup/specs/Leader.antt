@@ -5,7 +5,7 @@ use mathlib.Core.List.{List}
 use Prim.Native.Nat.{ℕ, zero, suc, min, _<_, _≤_}
 use lib.Dec.{eqb}
 use lib.Ieee.{Float}
-use Rattle.motion.specs.Float.{totalBefore}
+use Rattle.float.specs.Float.{totalBefore}
 use Rattle.motion.specs.Cyclic.{forwardDistance}
 use Rattle.world.specs.World.{carAt}
 use Rattle.world.specs.declared.Car.{Car}

@@ -5,7 +5,7 @@ use Prim.Native.Nat.{ℕ, zero, suc, _+_, min}
 use lib.Dec.{ltb}
 use lib.ListN.{getD, replicate}
 use lib.Ieee.{Float, binary64, ofBits, sub, lt, le}
-use Rattle.motion.specs.Float.{epsilon, abs, isFinite}
+use Rattle.float.specs.Float.{epsilon, abs, isFinite}
 use Rattle.motion.specs.Cyclic.{degenerate, forwardDistance}
 use Rattle.world.specs.World.{stopAt, lineAt}
 use Rattle.world.specs.declared.Line.{Line}

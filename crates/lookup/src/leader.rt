@@ -4,8 +4,8 @@ ghost use mathlib.Core.Bool.{true};
 ghost use Rattle.lookup.specs.Leader.{isOtherCar, loopLeaderPos, LeaderIsNearest};
 ghost use Rattle.lookup.specs.Ahead.{aheadAfter, posOf};
 use crate::stops::count_in;
+use float::total_before;
 use motion::cyclic::forward_distance;
-use motion::float::total_before;
 use world::Car;
 
 // The Rust's Option of a leader's position.

@@ -5,7 +5,7 @@ use mathlib.Core.List.{List, [], _∷_}
 use Prim.Native.Nat.{ℕ}
 use lib.ListN.{length}
 use lib.Ieee.{Float, binary64, ofBits}
-use Rattle.motion.specs.Float.{zero, one, two}
+use Rattle.float.specs.Float.{zero, one, two}
 use Rattle.motion.specs.Cyclic.{wrapPosition, forwardDistance}
 use Rattle.motion.specs.Movement.{tickMovement, headwayClampTarget}
 use Rattle.motion.specs.declared.movement.MovementResult.{MovementResult}

@@ -1,7 +1,7 @@
 -- fp.rs (deterministic-fp), movement.rs (loop_lines) and tick_manual's velocity, over the logic's IEEE 754. Each operation rounds once.
 use mathlib.Core.Bool.{Bool, true, false, not, _&&_, _||_, cond}
 use lib.Ieee.{Float, binary64, add, sub, mul, div, neg, lt, le}
-use Rattle.motion.specs.Float.{zero, two, epsilon, abs, signum, isFinite, max, clamp}
+use Rattle.float.specs.Float.{zero, two, epsilon, abs, signum, isFinite, max, clamp}
 use Rattle.motion.specs.Cyclic.{degenerate, wrapPosition, forwardDistance}
 use Rattle.motion.specs.declared.movement.MovementResult.{MovementResult}
 

@@ -3,12 +3,12 @@ ghost use mathlib.Core.Path.{_≡_};
 ghost use Rattle.motion.specs.Movement as Movement;
 use crate::cyclic::forward_distance;
 use crate::cyclic::wrap_position;
-use crate::float::abs;
-use crate::float::clamp;
-use crate::float::is_finite;
-use crate::float::max;
-use crate::float::signum;
 use crate::fp::fma;
+use float::abs;
+use float::clamp;
+use float::is_finite;
+use float::max;
+use float::signum;
 
 const EPSILON: f64 = 1e-9;
 

@@ -10,7 +10,7 @@ use lib.ListN.{set}
 use lib.Seq.{set-getD}
 use lib.Ieee.{Float}
 use Rattle.motion.specs.declared.movement.MovementResult.{MovementResult}
-use Rattle.motion.proofs.Cases.{yes, no}
+use Rattle.float.proofs.Cases.{yes, no}
 use Rattle.world.specs.World.{carAt, lineAt, noCar}
 use Rattle.world.specs.declared.World.{World}
 use Rattle.world.specs.declared.Car.{Car}

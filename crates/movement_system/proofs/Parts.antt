@@ -5,7 +5,7 @@ use mathlib.Core.List.{List}
 use Prim.Native.Nat.{ℕ}
 use lib.Ieee.{Float}
 use Rattle.motion.specs.declared.movement.MovementResult.{MovementResult}
-use Rattle.motion.proofs.Cases.{yes, no}
+use Rattle.float.proofs.Cases.{yes, no}
 use Rattle.world.specs.declared.Car.{Car}
 use Rattle.world.specs.declared.LineKind.{LineKind}
 use Rattle.world.specs.declared.LineKind.the-variants.{Linear, Loop}

@@ -26,7 +26,7 @@ use Rattle.world.specs.declared.ElevatorPhase.the-variants.{MovingToStop, Repos
 use Rattle.world.specs.declared.ServiceMode.{ServiceMode}
 use Rattle.world.specs.declared.SpeedOption.{SpeedOption}
 use Rattle.world.specs.declared.refusal.Refusal.{Refusal}
-use Rattle.motion.proofs.Cases.{and-left, and-right}
+use Rattle.float.proofs.Cases.{and-left, and-right}
 use Rattle.world.proofs.Unbroken.{or-left, or-right}
 use Rattle.tape.specs.Tape.{decoded}
 use Rattle.tape.specs.Facts.{InBounds, Facts}

@@ -6,8 +6,8 @@ use lib.Dec.{T}
 use lib.Ieee.{Float, nan, inf, fin, binary64, div, isNan, ofBits, nanBits}
 use lib.Ieee.Bits.{nanBits-is, nanBits-above}
 use borrow.Author.Tests.{lt-ltb, le-ltb}
-use Rattle.motion.specs.Float as F64
-use Rattle.motion.proofs.Cases.{no, fails}
+use Rattle.float.specs.Float as F64
+use Rattle.float.proofs.Cases.{no, fails}
 
 only-nan : (x : Float) → isNan x ≡ true → nan ≡ x
 unfolding isNan

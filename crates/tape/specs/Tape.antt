@@ -5,7 +5,7 @@ use Prim.Native.Nat.{ℕ, zero, suc, _+_, _*_, _/_, _%_, _^_}
 use lib.Dec.{ltb, eqb}
 use lib.ListN.{length, getD, set, replicate}
 use lib.Ieee.{Float, binary64, lt, le, ofBits}
-use Rattle.motion.specs.Float as F64
+use Rattle.float.specs.Float as F64
 use Rattle.door.specs.declared.DoorCommand.{DoorCommand}
 use Rattle.door.specs.declared.DoorCommand.the-variants as Command
 use Rattle.world.specs.Refusal.{Check, check}

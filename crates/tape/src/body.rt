@@ -4,8 +4,8 @@ ghost use Prim.Native.Nat.{_+_, _*_, _^_};
 ghost use lib.ListN.{getD};
 ghost use lib.Ieee.{ofBits, binary64};
 ghost use Rattle.tape.specs.Tape.{floatAt, rawZeroAt, outsideSize, outsideFromZero, outsideAboveZero};
-use motion::float::abs;
-use motion::float::is_finite;
+use float::abs;
+use float::is_finite;
 
 pub fn word_at(words: &[u32], at: usize) -> u32
     ensures { λ r. ⌜ r ≡ getD (now (words .entry)) at 0 ⌝ }

@@ -5,8 +5,8 @@ use mathlib.Core.List.{List, [], _∷_, _++_}
 use Prim.Native.Nat.{ℕ, zero, suc}
 use lib.ListN.{length, drop, replicate}
 use lib.Ieee.{Float, binary64, ofBits, add, sub, le}
-use Rattle.motion.specs.Float as Float
-use Rattle.motion.specs.Float.{one, two, epsilon, signum}
+use Rattle.float.specs.Float as Float
+use Rattle.float.specs.Float.{one, two, epsilon, signum}
 use Rattle.motion.specs.Movement.{tickMovement, arrivedAt}
 use Rattle.motion.specs.declared.movement.MovementResult.{MovementResult}
 use Rattle.world.specs.World.{carAt, newCar, emptyWorld}

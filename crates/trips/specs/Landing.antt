@@ -3,8 +3,8 @@ use mathlib.Core.Bool.{false, cond}
 use mathlib.Core.List.{List}
 use Prim.Native.Nat.{ℕ}
 use lib.Ieee.{Float, binary64, sub, mul, lt}
-use Rattle.motion.specs.Float as Float
-use Rattle.motion.specs.Float.{epsilon, abs}
+use Rattle.float.specs.Float as Float
+use Rattle.float.specs.Float.{epsilon, abs}
 use Rattle.motion.specs.Cyclic.{wrapPosition}
 use Rattle.motion.specs.Movement.{fma, tickMovement, tickMovementCyclic, headwayClampTarget, manualVelocity}
 use Rattle.motion.specs.declared.movement.MovementResult.{MovementResult}

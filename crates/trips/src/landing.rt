@@ -2,11 +2,11 @@
 ghost use mathlib.Core.Path.{_≡_};
 ghost use Rattle.trips.specs.Landing as Landing;
 use crate::Trip;
+use float::abs;
 use lookup::leader::LeaderOption;
 use lookup::leader::loop_leader_pos;
 use lookup::stops::stop_position;
 use motion::cyclic::wrap_position;
-use motion::float::abs;
 use motion::fp::fma;
 use motion::movement::MovementResult;
 use motion::movement::headway_clamp_target;

@@ -5,8 +5,8 @@ pub mod span; // what it sweeps over
 
 ghost use mathlib.Core.Path.{_≡_};
 ghost use Rattle.trips.specs.Trips as Trips;
+use float::abs;
 use motion::cyclic::forward_distance;
-use motion::float::abs;
 use world::Car;
 use world::ElevatorPhase;
 use world::LineKind;

@@ -4,7 +4,7 @@ use mathlib.Core.Bool.{Bool, true, false, _||_}
 use Prim.Native.Nat.{_≤_, _<_, _^_}
 use lib.Dec.{leb, ltb}
 use borrow.Author.Tests.{ltb-false, leb-false}
-use Rattle.motion.proofs.Cases.{yes}
+use Rattle.float.proofs.Cases.{yes}
 use Rattle.world.specs.Sound.{countsBroken}
 use Rattle.world.specs.declared.World.{World}
 

@@ -2,7 +2,7 @@
 use mathlib.Core.Path.{_≡_}
 use mathlib.Core.Bool.{true, false}
 use borrow.Author.Needs.{needs}
-use Rattle.motion.specs.Float.{totalBefore}
+use Rattle.float.specs.Float.{totalBefore}
 use Rattle.lookup.proofs.leader.nearer_car.Statement.{statement}
 use Rattle.lookup.proofs.leader.nearer_car.Tie as tie
 

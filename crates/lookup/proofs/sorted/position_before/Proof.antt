@@ -1,5 +1,5 @@
 -- `lookup::sorted::position_before` meets its contract. Assumes nothing.
-use Rattle.motion.proofs.Cases.{eq-self, ne-self}
+use Rattle.float.proofs.Cases.{eq-self, ne-self}
 use Rattle.lookup.specs.Sorted.{positionBefore}
 use Rattle.lookup.proofs.sorted.position_before.Statement.{statement}
 use Rattle.lookup.proofs.sorted.position_before.Tie as tie

@@ -2,7 +2,7 @@
 use mathlib.Core.Path.{_≡_}
 use mathlib.Core.Bool.{true, false}
 use lib.Ieee.{le}
-use Rattle.motion.specs.Float.{epsilon}
+use Rattle.float.specs.Float.{epsilon}
 use Rattle.lookup.specs.Stops.{aheadOf}
 use Rattle.lookup.proofs.stops.ahead_of.Statement.{statement}
 use Rattle.lookup.proofs.stops.ahead_of.Tie as tie

@@ -6,7 +6,7 @@ use native.Mathlib.Numerals.{add-one}
 use native.Mathlib.Omega.{arith}
 use lib.Ieee.{Float, le}
 use borrow.Author.Needs.{needs}
-use Rattle.motion.specs.Float.{zero, isFinite}
+use Rattle.float.specs.Float.{zero, isFinite}
 use Rattle.motion.specs.Cyclic.{degenerate}
 use Rattle.lookup.specs.Stops.{nearestTo, loopNextStopForward}
 use Rattle.lookup.proofs.stops.loop_next_stop_forward.Statement.{statement}

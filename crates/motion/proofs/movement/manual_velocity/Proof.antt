@@ -3,7 +3,7 @@ use mathlib.Core.Path.{_≡_}
 use mathlib.Core.Bool.{cond, _||_}
 use mathlib.Core.Logic.{⊎-elim}
 use lib.Ieee.{binary64, add, sub, mul, lt, le}
-use Rattle.motion.specs.Float.{zero}
+use Rattle.float.specs.Float.{zero}
 use Rattle.motion.specs.Movement.{manualVelocity}
 use Rattle.motion.proofs.movement.manual_velocity.Statement.{statement}
 use Rattle.motion.proofs.movement.manual_velocity.Tie as tie

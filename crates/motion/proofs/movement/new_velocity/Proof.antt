@@ -2,7 +2,7 @@
 use mathlib.Core.Path.{_≡_}
 use mathlib.Core.Bool.{cond, _||_}
 use lib.Ieee.{binary64, sub, mul, div, lt, le}
-use Rattle.motion.specs.Float.{zero, two, epsilon}
+use Rattle.float.specs.Float.{zero, two, epsilon}
 use Rattle.motion.specs.Movement.{newVelocity, decelerated, accelerated}
 use Rattle.motion.proofs.movement.new_velocity.Statement.{statement}
 use Rattle.motion.proofs.movement.new_velocity.Tie as tie

@@ -6,7 +6,7 @@ use lib.Dec.{ltb, eqb}
 use lib.ListN.{getD}
 use borrow.Author.Needs.{needs}
 use borrow.Author.Tests.{ltb-true}
-use Rattle.motion.proofs.Cases.{and-left}
+use Rattle.float.proofs.Cases.{and-left}
 use Rattle.trips.specs.Arrival.{popped}
 use Rattle.trips.proofs.arrival.popped.Statement.{statement}
 use Rattle.trips.proofs.arrival.popped.Tie as tie
