@@ -16,7 +16,7 @@ use Rattle.door.specs.declared.DoorState.{DoorState}
 use Rattle.door.specs.declared.DoorState.the-variants.{Closed}
 use Rattle.world.specs.World.{carAt, noCar, newCar}
 use Rattle.world.specs.With.{withCar, withCars}
-use Rattle.world.specs.Sound.{broken, unloaded}
+use Rattle.sound.specs.Sound.{broken, unloaded}
 use Rattle.world.specs.Refusal.{Check, check}
 use Rattle.world.specs.declared.World.{World}
 use Rattle.world.specs.declared.Car.{Car}
@@ -25,7 +25,7 @@ use Rattle.world.specs.declared.ElevatorPhase.{ElevatorPhase}
 use Rattle.world.specs.declared.ElevatorPhase.the-variants.{MovingToStop, Repositioning}
 use Rattle.world.specs.declared.refusal.Refusal.{Refusal}
 use Rattle.world.specs.declared.refusal.Refusal.the-variants.{BrokenWorld}
-use Rattle.world.proofs.Unbroken.{or-left, or-right}
+use Rattle.sound.proofs.Unbroken.{or-left, or-right}
 use Rattle.tape.specs.Tape.{kindOf, decoded}
 use Rattle.tape.specs.declared.Read.{Read}
 use Rattle.tape.specs.declared.Read.the-variants as Read

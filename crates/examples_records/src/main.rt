@@ -5,6 +5,7 @@ use libc::STDIN_FILENO;
 use libc::STDOUT_FILENO;
 use loads::Changed;
 use loads::Taken;
+use sound::broken;
 use tape::Read;
 use tape::Record;
 use tape::decode;
@@ -12,7 +13,6 @@ use world::World;
 use world::empty::empty;
 use world::refusal::Refusal;
 use world::refusal::number;
-use world::sound::broken;
 
 // How a tape's last record was answered.
 enum End {

@@ -3,6 +3,9 @@ ghost use mathlib.Core.Path.{_≡_};
 ghost use mathlib.Core.Bool.{_||_};
 ghost use Prim.Native.Nat.{_+_};
 ghost use Rattle.loads.specs.Loads as Loads;
+use sound::line_broken;
+use sound::rider_broken;
+use sound::unloaded;
 use world::Line;
 use world::LineKind;
 use world::Motion;
@@ -10,9 +13,6 @@ use world::Rider;
 use world::World;
 use world::empty::new_car;
 use world::refusal::Refusal;
-use world::sound::line_broken;
-use world::sound::rider_broken;
-use world::sound::unloaded;
 
 // What the state says of a record.
 pub enum Taken {

@@ -10,7 +10,7 @@ use lib.Pow.{pow-mono}
 use lib.Ieee.{Float}
 use borrow.Author.Tests.{eqb-true, ltb-true, leb-false, not-false, lt-leb}
 use Rattle.door.specs.declared.DoorCommand.{DoorCommand}
-use Rattle.world.specs.Sound.{anyTo, unloaded, phaseUnloaded, lineBroken, riderBroken, broken}
+use Rattle.sound.specs.Sound.{anyTo, unloaded, phaseUnloaded, lineBroken, riderBroken, broken}
 use Rattle.world.specs.World.{noLine, noRider, lineAt, carAt, riderAt, newCar}
 use Rattle.world.specs.With.{withCar}
 use Rattle.world.specs.Calls.{pressed}
@@ -27,7 +27,7 @@ use Rattle.world.specs.declared.ServiceMode.{ServiceMode}
 use Rattle.world.specs.declared.SpeedOption.{SpeedOption}
 use Rattle.world.specs.declared.refusal.Refusal.{Refusal}
 use Rattle.float.proofs.Cases.{and-left, and-right}
-use Rattle.world.proofs.Unbroken.{or-left, or-right}
+use Rattle.sound.proofs.Unbroken.{or-left, or-right}
 use Rattle.tape.specs.Tape.{decoded}
 use Rattle.tape.specs.Facts.{InBounds, Facts}
 use Rattle.tape.proofs.Bounds.{in-bounds}

@@ -14,7 +14,7 @@ use Rattle.door.specs.declared.DoorCommand.{DoorCommand}
 use Rattle.door.specs.declared.DoorCommand.the-variants as Command
 use Rattle.door.specs.declared.DoorTransition.{DoorTransition}
 use Rattle.door.specs.declared.DoorTransition.the-variants.{None, FinishedOpening, FinishedOpen, FinishedClosing}
-use Rattle.world.specs.Sound.{anyTo, unloaded, stopUnloaded, phaseUnloaded, lineBroken}
+use Rattle.sound.specs.Sound.{anyTo, unloaded, stopUnloaded, phaseUnloaded, lineBroken}
 use Rattle.world.specs.World.{lineAt}
 use Rattle.world.specs.declared.Car.{Car}
 use Rattle.world.specs.declared.Line.{Line}

@@ -7,7 +7,7 @@ use lib.ListN.{set}
 use Rattle.door.specs.declared.DoorCommand.{DoorCommand}
 use Rattle.world.specs.World.{carAt}
 use Rattle.world.specs.With.{withCar, withPeople, withOrders}
-use Rattle.world.specs.Sound.{unloaded}
+use Rattle.sound.specs.Sound.{unloaded}
 use Rattle.world.specs.Calls.{pressed}
 use Rattle.world.specs.declared.World.{World}
 use Rattle.world.specs.declared.Car.{Car}

@@ -6,6 +6,7 @@ use door::DoorCommand;
 use loads::Changed;
 use loads::accepted;
 use loads::refused;
+use sound::unloaded;
 use world::Car;
 use world::ElevatorPhase;
 use world::QueuedCommand;
@@ -15,7 +16,6 @@ use world::StopOption;
 use world::World;
 use world::calls::pressed;
 use world::refusal::Refusal;
-use world::sound::unloaded;
 
 // A car with another phase, mode, repositioning flag, target and manual speed.
 fn with_orders(

@@ -12,7 +12,7 @@ use lib.Ieee.{Float}
 use borrow.Author.Tests.{ltb-false, eqb-false}
 use Rattle.world.specs.World.{carAt, newCar}
 use Rattle.world.specs.With.{withCar, withCars}
-use Rattle.world.specs.Sound.{broken}
+use Rattle.sound.specs.Sound.{broken}
 use Rattle.world.specs.Refusal.{Check, check}
 use Rattle.world.specs.declared.World.{World}
 use Rattle.world.specs.declared.refusal.Refusal.{Refusal}

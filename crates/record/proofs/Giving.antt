@@ -8,9 +8,9 @@ use Prim.Native.Nat.{ℕ, _+_, _*_, _^_, _≤_, _<_}
 use lib.ListN.{length}
 use lib.Ieee.{Float}
 use borrow.Author.Tests.{lt-ltb, le-ltb, le-leb, lt-leb}
-use Rattle.world.specs.Sound.{broken, countsBroken}
+use Rattle.sound.specs.Sound.{broken, countsBroken}
 use Rattle.world.specs.declared.World.{World}
-use Rattle.world.proofs.Unbroken.{counts-fit}
+use Rattle.sound.proofs.Unbroken.{counts-fit}
 use Rattle.world.specs.declared.refusal.Refusal.{Refusal}
 use Rattle.world.specs.declared.refusal.Refusal.the-variants.{BrokenWorld, NotNow, LastTick, LogShort}
 use Rattle.tape.specs.Tape.{decoded}

@@ -6,13 +6,13 @@ ghost use Rattle.record.specs.Conditions.{FirstCondition, OnItsCondition
 ghost use Rattle.record.specs.Parts.{Orders, Changes, Few};
 use loads::Changed;
 use loads::Taken;
+use sound::broken;
 use tape::Read;
 use tape::Record;
 use tape::decode;
 use tick::tick;
 use world::World;
 use world::refusal::Refusal;
-use world::sound::broken;
 
 // An accepted record with the words used and the log words written, or one refusal.
 pub enum Answer {
