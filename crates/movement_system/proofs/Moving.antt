@@ -17,7 +17,7 @@ use Rattle.world.specs.declared.Car.{Car}
 use Rattle.world.specs.declared.Line.{Line}
 use Rattle.world.specs.declared.LineKind.{LineKind}
 use Rattle.world.specs.declared.LineKind.the-variants.{Linear, Loop}
-use Rattle.lookup.specs.declared.leader.LeaderOption.{LeaderOption}
+use Rattle.leader.specs.declared.LeaderOption.{LeaderOption}
 use Rattle.log.specs.Log.{Wrote}
 use Rattle.log.proofs.Writing.{also, wrote-none}
 use Rattle.steps.specs.Steps.{plus, Step, lineOf, lampsOf, placed, stepped, notOpened, runTo}

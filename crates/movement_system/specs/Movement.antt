@@ -14,7 +14,7 @@ use Rattle.world.specs.declared.ElevatorPhase.the-variants.{Idle, DoorOpening}
 use Rattle.world.specs.declared.StopOption.{StopOption}
 use Rattle.world.specs.declared.StopOption.the-variants.{NoStop, Stop}
 use Rattle.world.specs.declared.TickOption.the-variants.{AtTick}
-use Rattle.lookup.specs.Sorted.{sortedStops}
+use Rattle.sorted.specs.Sorted.{sortedStops}
 use Rattle.log.specs.Words.{wordOf}
 use Rattle.log.specs.declared.Event.the-variants.{ElevatorArrived, ElevatorRepositioned, ElevatorIdle}
 use Rattle.steps.specs.Steps.{plus, lineOf, lampsOf, bothLit, updateIndicators, withMoved, withArrived, Step, Run, notOpened, runCars}

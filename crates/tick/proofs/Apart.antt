@@ -14,8 +14,8 @@ use Rattle.float.specs.Float.{epsilon}
 use Rattle.float.proofs.Cases.{no, yes}
 use Rattle.float.proofs.Rounding.{Plus, plus-round, neg-round, le-nat}
 use Rattle.float.proofs.Sides.{truly, flip, astride}
-use Rattle.lookup.specs.Sorted.{positionBefore}
-use Rattle.lookup.proofs.Order.{not-both}
+use Rattle.sorted.specs.Sorted.{positionBefore}
+use Rattle.sorted.proofs.Order.{not-both}
 use Rattle.movement_system.proofs.Thresholds.{le-through}
 
 -- ---- two floats with no sign

@@ -13,7 +13,7 @@ use Rattle.world.specs.World.{stopAt}
 use Rattle.world.specs.declared.LineKind.{LineKind}
 use Rattle.world.specs.declared.LineKind.the-variants.{Linear, Loop}
 use Rattle.world.specs.declared.StopOption.{StopOption}
-use Rattle.lookup.specs.Sorted.{sortedStops}
+use Rattle.sorted.specs.Sorted.{sortedStops}
 use Rattle.trips.specs.Spans.{spanOf, manualSpan}
 use Rattle.trips.specs.declared.span.Span.{Span}
 use Rattle.trips.specs.declared.span.Span.the-variants.{Range, Seam}

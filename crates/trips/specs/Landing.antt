@@ -15,9 +15,9 @@ use Rattle.world.specs.declared.LineKind.{LineKind}
 use Rattle.world.specs.declared.LineKind.the-variants.{Linear, Loop}
 use Rattle.world.specs.declared.SpeedOption.{SpeedOption}
 use Rattle.world.specs.declared.SpeedOption.the-variants.{NoSpeed, Speed}
-use Rattle.lookup.specs.Leader.{loopLeaderPos}
-use Rattle.lookup.specs.declared.leader.LeaderOption.{LeaderOption}
-use Rattle.lookup.specs.declared.leader.LeaderOption.the-variants.{NoLeader, At}
+use Rattle.leader.specs.Leader.{loopLeaderPos}
+use Rattle.leader.specs.declared.LeaderOption.{LeaderOption}
+use Rattle.leader.specs.declared.LeaderOption.the-variants.{NoLeader, At}
 use Rattle.steps.specs.Steps.{isInspection}
 use Rattle.trips.specs.declared.Trip.{Trip}
 use Rattle.trips.specs.declared.Trip.the-variants.{Rests, Drives, GoesTo, Repositions}

@@ -7,8 +7,8 @@ use Rattle.motion.specs.Movement.{decelerated, accelerated, newVelocity, tickMo
 use Rattle.world.specs.Calls.{called}
 use Rattle.world.specs.World.{emptyWorld}
 use Rattle.lookup.specs.Stops.{loopNextStopForCar}
-use Rattle.lookup.specs.Leader.{leaderTo, loopLeaderPos}
-use Rattle.lookup.specs.Sorted.{positionBefore, stopBefore, inserted, sortedStops}
+use Rattle.leader.specs.Leader.{leaderTo, loopLeaderPos}
+use Rattle.sorted.specs.Sorted.{positionBefore, stopBefore, inserted, sortedStops}
 use Rattle.log.specs.Words.{word, tickWord}
 use Rattle.steps.specs.Steps.{plus, lineOf, runTo, runCars}
 use Rattle.trips.specs.Arrival.{ridersTo, queuedTo, directionFromRemainingWork, popped}
