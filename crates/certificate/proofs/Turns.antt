@@ -36,10 +36,11 @@ use Rattle.trips.specs.declared.Trip.the-variants.{Rests, GoesTo, Repositions}
 use Rattle.movement_system.specs.Passing.{passingWords}
 use Rattle.movement_system.specs.Movement as Movement
 use Rattle.movement_system.specs.Movement.{passedOver, moveOf}
-use Rattle.doors_system.specs.Commands.{applyOpen, applyClose, applyHold, applyCancelHold, tryApplyCommand, queued, triedOn, workTo, workWordsTo, processDoorCommands, commandWords}
-use Rattle.doors_system.specs.Doors.{Turn, departedFrom, finishedOpening, finishedClosing, finishBy, stays, rests, doorBy, doorTurn, doorOf}
-use Rattle.doors_system.specs.declared.commands.Tried.{Tried}
-use Rattle.doors_system.specs.declared.commands.Work.{Work}
+use Rattle.door_commands.specs.Commands.{applyOpen, applyClose, applyHold, applyCancelHold, tryApplyCommand, queued, triedOn, workTo, workWordsTo, processDoorCommands, commandWords}
+use Rattle.doors_system.specs.Doors.{doorTurn, doorOf}
+use Rattle.door_ticks.specs.Ticks.{Turn, departedFrom, finishedOpening, finishedClosing, finishBy, stays, rests, doorBy}
+use Rattle.door_commands.specs.declared.Tried.{Tried}
+use Rattle.door_commands.specs.declared.Work.{Work}
 use Rattle.tick.proofs.Passed.{both, cases}
 use Rattle.certificate.proofs.Watch.{Told, told-none, told-join, told-dull, told-word}
 

@@ -35,10 +35,11 @@ use Rattle.trips.specs.Arrival.{shifted, popped, arrivalLamps}
 use Rattle.trips.specs.declared.Trip.{Trip}
 use Rattle.trips.specs.declared.Trip.the-variants.{Rests, Drives, GoesTo, Repositions}
 use Rattle.movement_system.specs.Movement.{passedOver, passOf, repositionedOf, arrivedOf, turnBy}
-use Rattle.doors_system.specs.Commands.{applyOpen, applyClose, applyHold, applyCancelHold, tryApplyCommand, worked, queued, triedOn, workTo, processDoorCommands}
-use Rattle.doors_system.specs.Doors.{Turn, rested, finishedClosing, finishBy, stays, doorBy, doorTurn}
-use Rattle.doors_system.specs.declared.commands.Tried.{Tried}
-use Rattle.doors_system.specs.declared.commands.Work.{Work}
+use Rattle.door_commands.specs.Commands.{applyOpen, applyClose, applyHold, applyCancelHold, tryApplyCommand, worked, queued, triedOn, workTo, processDoorCommands}
+use Rattle.doors_system.specs.Doors.{doorTurn}
+use Rattle.door_ticks.specs.Ticks.{Turn, rested, finishedClosing, finishBy, stays, doorBy}
+use Rattle.door_commands.specs.declared.Tried.{Tried}
+use Rattle.door_commands.specs.declared.Work.{Work}
 use Rattle.tick.proofs.Passed.{both}
 use Rattle.never_broken.proofs.Numbers.{still-loaded, stop-stays, phase-stays, listed}
 

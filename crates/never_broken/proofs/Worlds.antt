@@ -22,8 +22,9 @@ use Rattle.trips.specs.Trips.{tripOf}
 use Rattle.trips.specs.Landing.{landing, leaderOf}
 use Rattle.trips.specs.Arrival.{workOf}
 use Rattle.movement_system.specs.Movement.{moveOf, moved}
-use Rattle.doors_system.specs.Commands.{atStop, hasRiderTraversing}
-use Rattle.doors_system.specs.Doors.{doorOf, doored, Standing, standing, carsOf, clears, clearOne, clearMatching, clearTo, openedOf, doorsWorld}
+use Rattle.door_commands.specs.Commands.{atStop, hasRiderTraversing}
+use Rattle.doors_system.specs.Doors.{doorOf, doored, standing, carsOf, doorsWorld}
+use Rattle.hall_calls.specs.Clearing.{Standing, clears, clearOne, clearMatching, clearTo, openedOf}
 use Rattle.tick.specs.Tick.{tickWorld}
 use Rattle.tick.specs.Counters.{Counts, NothingWraps}
 use Rattle.tick.proofs.Passed.{both}

@@ -34,9 +34,10 @@ use Rattle.trips.specs.declared.Trip.{Trip}
 use Rattle.trips.specs.declared.Trip.the-variants.{Rests, Drives, GoesTo, Repositions}
 use Rattle.movement_system.specs.Passing.{passingWords}
 use Rattle.movement_system.specs.Movement.{passedOver, passOf, repositionedOf, arrivedOf, turnBy, moveOf}
-use Rattle.doors_system.specs.Commands.{queued, triedOn, workTo, workWordsTo, processDoorCommands, commandWords}
-use Rattle.doors_system.specs.Doors.{Turn, openedAt, departedFrom, finishedClosing, finishBy, stays, doorBy, after, doorTurn, stepBy, turnOn, doorOf}
-use Rattle.doors_system.specs.declared.commands.Work.{Work}
+use Rattle.door_commands.specs.Commands.{queued, triedOn, workTo, workWordsTo, processDoorCommands, commandWords}
+use Rattle.doors_system.specs.Doors.{doorTurn, stepBy, turnOn, doorOf}
+use Rattle.door_ticks.specs.Ticks.{Turn, openedAt, departedFrom, finishedClosing, finishBy, stays, doorBy, after}
+use Rattle.door_commands.specs.declared.Work.{Work}
 use Rattle.tick.specs.Counters.{isMove, movesIn}
 use Rattle.tick.proofs.Passed.{both, span-fits, manual-fits}
 

@@ -14,8 +14,9 @@ use Rattle.steps.specs.Steps.{plus, lineOf, runTo, runCars}
 use Rattle.trips.specs.Arrival.{ridersTo, queuedTo, directionFromRemainingWork, popped}
 use Rattle.movement_system.specs.Passing.{countIn, startOf, endOf, between, unlessTarget, without, emitRange, passingWords}
 use Rattle.movement_system.specs.Movement.{moveOf, moved}
-use Rattle.doors_system.specs.Commands.{workTo, workWordsTo, processDoorCommands, commandWords}
-use Rattle.doors_system.specs.Doors.{doorOf, clearWord, clearTo, clearWordsTo, doored, doorsWorld, doorsWords}
+use Rattle.door_commands.specs.Commands.{workTo, workWordsTo, processDoorCommands, commandWords}
+use Rattle.doors_system.specs.Doors.{doorOf, doored, doorsWorld, doorsWords}
+use Rattle.hall_calls.specs.Clearing.{clearWord, clearTo, clearWordsTo}
 use Rattle.tick.specs.Tick.{tickWorld, tickWords}
 use Rattle.tick.specs.Room.{roomOf}
 use Rattle.tick.specs.Traps.{Traps, worldAfter, told}
