@@ -29,8 +29,8 @@ use Rattle.steps.specs.Steps.{isManual, isInspection, lineOf, lampsOf, bothLit,
 use Rattle.steps.specs.declared.Lamps.{Lamps}
 use Rattle.trips.specs.Trips.{tripBy, tripOf, travelled, distanceAfter}
 use Rattle.trips.specs.Spans.{spanOf, movingUp}
-use Rattle.trips.specs.Landing.{leaderOf, landing}
-use Rattle.trips.specs.Arrival.{arrivalLamps, workOf}
+use Rattle.landing.specs.Landing.{leaderOf, landing}
+use Rattle.arrival.specs.Arrival.{arrivalLamps, workOf}
 use Rattle.trips.specs.declared.Trip.{Trip}
 use Rattle.trips.specs.declared.Trip.the-variants.{Rests, GoesTo, Repositions}
 use Rattle.movement_system.specs.Passing.{passingWords}

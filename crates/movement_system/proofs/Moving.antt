@@ -23,8 +23,8 @@ use Rattle.log.proofs.Writing.{also, wrote-none}
 use Rattle.steps.specs.Steps.{plus, Step, lineOf, lampsOf, placed, stepped, notOpened, runTo}
 use Rattle.steps.specs.declared.Lamps.{Lamps}
 use Rattle.trips.specs.Trips.{isTrip, isLoop, tripOf}
-use Rattle.trips.specs.Landing.{leaderOf, landing}
-use Rattle.trips.specs.Arrival.{asksWork, workOf}
+use Rattle.landing.specs.Landing.{leaderOf, landing}
+use Rattle.arrival.specs.Arrival.{asksWork, workOf}
 use Rattle.trips.specs.declared.Trip.{Trip}
 use Rattle.trips.specs.declared.Trip.the-variants.{Rests, Drives, GoesTo, Repositions}
 use Rattle.movement_system.specs.Movement.{turnBy, moveOf}

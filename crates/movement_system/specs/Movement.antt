@@ -21,8 +21,8 @@ use Rattle.steps.specs.Steps.{plus, lineOf, lampsOf, bothLit, updateIndicators,
 use Rattle.steps.specs.declared.Lamps.{Lamps}
 use Rattle.trips.specs.Trips.{tripOf, travelled, distanceAfter}
 use Rattle.trips.specs.Spans.{spanOf, manualSpan, movingUp}
-use Rattle.trips.specs.Landing.{leaderOf, landing}
-use Rattle.trips.specs.Arrival.{popped, arrivalLamps, workOf}
+use Rattle.landing.specs.Landing.{leaderOf, landing}
+use Rattle.arrival.specs.Arrival.{popped, arrivalLamps, workOf}
 use Rattle.trips.specs.declared.span.Span.{Span}
 use Rattle.trips.specs.declared.Trip.{Trip}
 use Rattle.trips.specs.declared.Trip.the-variants.{Rests, Drives, GoesTo, Repositions}

@@ -20,7 +20,7 @@ use Rattle.steps.specs.Steps.{plus, lampsOf, bothLit, updateIndicators, withArr
 use Rattle.steps.specs.declared.Lamps.{Lamps}
 use Rattle.trips.specs.Trips.{travelled, distanceAfter}
 use Rattle.trips.specs.Spans.{spanOf, manualSpan, movingUp}
-use Rattle.trips.specs.Arrival.{popped}
+use Rattle.arrival.specs.Arrival.{popped}
 use Rattle.trips.specs.declared.span.Span.{Span}
 use Rattle.trips.specs.declared.Trip.{Trip}
 use Rattle.trips.specs.declared.Trip.the-variants.{Rests, Drives, GoesTo, Repositions}

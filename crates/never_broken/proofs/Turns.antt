@@ -31,7 +31,7 @@ use Rattle.steps.specs.Steps.{lineOf, Step}
 use Rattle.steps.specs.declared.Lamps.{Lamps}
 use Rattle.steps.specs.declared.Queue.{Queue}
 use Rattle.trips.specs.Spans.{spanOf, manualSpan}
-use Rattle.trips.specs.Arrival.{shifted, popped, arrivalLamps}
+use Rattle.arrival.specs.Arrival.{shifted, popped, arrivalLamps}
 use Rattle.trips.specs.declared.Trip.{Trip}
 use Rattle.trips.specs.declared.Trip.the-variants.{Rests, Drives, GoesTo, Repositions}
 use Rattle.movement_system.specs.Movement.{passedOver, passOf, repositionedOf, arrivedOf, turnBy}

@@ -19,8 +19,8 @@ use Rattle.lookup.specs.Stops.{loopNextStopForCar}
 use Rattle.steps.specs.Steps.{lineOf, Step, stepped, runTo, runCars}
 use Rattle.steps.specs.declared.JustOpened.{JustOpened}
 use Rattle.trips.specs.Trips.{tripOf}
-use Rattle.trips.specs.Landing.{landing, leaderOf}
-use Rattle.trips.specs.Arrival.{workOf}
+use Rattle.landing.specs.Landing.{landing, leaderOf}
+use Rattle.arrival.specs.Arrival.{workOf}
 use Rattle.movement_system.specs.Movement.{moveOf, moved}
 use Rattle.door_commands.specs.Commands.{atStop, hasRiderTraversing}
 use Rattle.doors_system.specs.Doors.{doorOf, doored, standing, carsOf, doorsWorld}

@@ -28,8 +28,8 @@ use Rattle.steps.specs.Steps.{plus, lineOf, lampsOf, bothLit, unlit, updateIndi
 use Rattle.steps.specs.declared.Lamps.{Lamps}
 use Rattle.trips.specs.Trips.{tripOf}
 use Rattle.trips.specs.Spans.{spanOf, manualSpan, movingUp}
-use Rattle.trips.specs.Landing.{landing, leaderOf}
-use Rattle.trips.specs.Arrival.{arrivalLamps, workOf}
+use Rattle.landing.specs.Landing.{landing, leaderOf}
+use Rattle.arrival.specs.Arrival.{arrivalLamps, workOf}
 use Rattle.trips.specs.declared.Trip.{Trip}
 use Rattle.trips.specs.declared.Trip.the-variants.{Rests, Drives, GoesTo, Repositions}
 use Rattle.movement_system.specs.Passing.{passingWords}

@@ -20,7 +20,7 @@ use Rattle.world.specs.declared.LineKind.the-variants.{Linear, Loop}
 use Rattle.world.specs.declared.ElevatorPhase.the-variants.{MovingToStop}
 use Rattle.world.specs.declared.StopOption.the-variants.{NoStop, Stop}
 use Rattle.sorted.specs.Sorted.{sortedStops}
-use Rattle.trips.specs.Landing.{drivenTo}
+use Rattle.landing.specs.Landing.{drivenTo}
 use Rattle.movement_system.specs.Passing.{startOf, endOf, emitRange}
 use Rattle.tick.specs.Tick.{tickWorld, tickWords}
 use Rattle.tick.specs.Room.{roomOf}

@@ -1,6 +1,4 @@
-// A car's trip in a tick: which way it goes, where it lands, and what it does at its stop.
-pub mod arrival; // the queue's front, and lamps from remaining work
-pub mod landing; // where a tick takes a car
+// A car's trip in a tick: which way it goes, and what it sweeps over.
 pub mod span; // what it sweeps over
 
 ghost use mathlib.Core.Path.{_≡_};

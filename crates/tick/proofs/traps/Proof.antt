@@ -11,7 +11,7 @@ use Rattle.leader.specs.Leader.{leaderTo, loopLeaderPos}
 use Rattle.sorted.specs.Sorted.{positionBefore, stopBefore, inserted, sortedStops}
 use Rattle.log.specs.Words.{word, tickWord}
 use Rattle.steps.specs.Steps.{plus, lineOf, runTo, runCars}
-use Rattle.trips.specs.Arrival.{ridersTo, queuedTo, directionFromRemainingWork, popped}
+use Rattle.arrival.specs.Arrival.{ridersTo, queuedTo, directionFromRemainingWork, popped}
 use Rattle.movement_system.specs.Passing.{countIn, startOf, endOf, between, unlessTarget, without, emitRange, passingWords}
 use Rattle.movement_system.specs.Movement.{moveOf, moved}
 use Rattle.door_commands.specs.Commands.{workTo, workWordsTo, processDoorCommands, commandWords}
