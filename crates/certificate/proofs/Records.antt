@@ -35,7 +35,9 @@ use Rattle.loads.specs.Loads as Loads
 use Rattle.loads.specs.Loads.{loadLine, loadStop, loadCar, loadRider, start}
 use Rattle.loads.specs.declared.Changed.{Changed}
 use Rattle.orders.specs.Orders as Orders
-use Rattle.orders.specs.Orders.{send, setMode, setManualSpeed, queueCommand, pressHallCall, pushDestination, setEnabled}
+use Rattle.requests.specs.Requests as Requests
+use Rattle.orders.specs.Orders.{send, setMode, setManualSpeed, setEnabled}
+use Rattle.requests.specs.Requests.{queueCommand, pressHallCall, pushDestination}
 use Rattle.tick.specs.Tick.{tickWords}
 use Rattle.tick.specs.Room.{roomOf, WordsFit}
 use Rattle.tick.specs.Counters.{sumTo}
@@ -255,11 +257,11 @@ module _ (w : World) (c : Call) (j : List ℕ) (h : Keeps j w) (p : putsManual w
       order w c j h used (Orders.orderChecks w car) car (Orders.atSpeed (carAt (w .cars) car) speed) s (λ q. q .1 .0)
       (λ f. record { sound = f .sound; tame = f .tame }) refl
   taken-kept (Record.DoorCommand car command) s =
-      order w c j h used (Orders.commandChecks w car) car (Orders.commanded (carAt (w .cars) car) command) s (λ q. q .1 .0)
+      order w c j h used (Requests.commandChecks w car) car (Requests.commanded (carAt (w .cars) car) command) s (λ q. q .1 .0)
       (λ f. record { sound = f .sound; tame = f .tame }) refl
-  taken-kept (Record.HallCall stop down) s = plain w c j h used (Orders.callChecks w stop) _ s (λ q. h)
+  taken-kept (Record.HallCall stop down) s = plain w c j h used (Requests.callChecks w stop) _ s (λ q. h)
   taken-kept (Record.Destination car stop) s =
-      order w c j h used (Orders.destinationChecks w car stop) car (Orders.destined (carAt (w .cars) car) stop) s
+      order w c j h used (Requests.destinationChecks w car stop) car (Requests.destined (carAt (w .cars) car) stop) s
       (λ q. or-left (Loads.noSuchCar w car) (unloaded (w .«stop_count») stop) (q .1 .0)) (λ f. record { sound = f .sound; tame = f .tame }) refl
   taken-kept (Record.Enable car enabled) s =
       order w c j h used (Orders.orderChecks w car) car (Orders.marked (carAt (w .cars) car) enabled) s (λ q. q .1 .0)

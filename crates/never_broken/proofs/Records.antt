@@ -38,7 +38,8 @@ use Rattle.tape.specs.declared.Record.the-variants as Record
 use Rattle.loads.specs.Loads as Loads
 use Rattle.loads.specs.Loads.{notNext, noSuchCar, countWith, lineRow, lineChecks, stopChecks, carChecks, riderChecks, startChecks, loadLine, loadStop, loadCar, loadRider, start}
 use Rattle.loads.specs.declared.Changed.{Changed}
-use Rattle.orders.specs.Orders.{sendChecks, orderChecks, commandChecks, callChecks, destinationChecks, sent, inMode, atSpeed, commanded, destined, marked, send, setMode, setManualSpeed, queueCommand, pressHallCall, pushDestination, setEnabled}
+use Rattle.orders.specs.Orders.{sendChecks, orderChecks, sent, inMode, atSpeed, marked, send, setMode, setManualSpeed, setEnabled}
+use Rattle.requests.specs.Requests.{commandChecks, callChecks, destinationChecks, commanded, destined, queueCommand, pressHallCall, pushDestination}
 use Rattle.record.specs.declared.Answer.{Answer}
 use Rattle.record.specs.declared.Answer.the-variants.{Accepted, Refused}
 use Rattle.record.specs.Record.{Outcome, refused, unless, changed, tickChecks, ticked, tickOnce, taken, readBy, recordOf}

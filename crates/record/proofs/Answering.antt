@@ -29,7 +29,8 @@ use Rattle.tape.proofs.Bounds.{in-bounds}
 use Rattle.loads.specs.Loads as Loads
 use Rattle.loads.specs.Loads.{lineRow, lineChecks, withLine, loadLine, stopChecks, withStop, loadStop, carChecks, loadCar, riderChecks, withRider, loadRider, startChecks, withStart, start}
 use Rattle.loads.specs.declared.Changed.{Changed}
-use Rattle.orders.specs.Orders.{sendChecks, sent, send, orderChecks, inMode, setMode, atSpeed, setManualSpeed, commandChecks, commanded, queueCommand, callChecks, withCall, pressHallCall, destinationChecks, destined, pushDestination, marked, setEnabled}
+use Rattle.orders.specs.Orders.{sendChecks, sent, send, orderChecks, inMode, setMode, atSpeed, setManualSpeed, marked, setEnabled}
+use Rattle.requests.specs.Requests.{commandChecks, commanded, queueCommand, callChecks, withCall, pressHallCall, destinationChecks, destined, pushDestination}
 use Rattle.log.proofs.Writing.{sets-after}
 use Rattle.tick.specs.Tick.{tickWords}
 use Rattle.tick.specs.Room.{roomOf, WordsFit}

@@ -21,7 +21,8 @@ use Rattle.loads.specs.Loads.{loadLine, loadStop, loadCar, loadRider, start}
 use Rattle.loads.specs.declared.Changed.{Changed}
 use Rattle.loads.specs.declared.Taken.{Taken}
 use Rattle.loads.specs.declared.Taken.the-variants as Taken
-use Rattle.orders.specs.Orders.{send, setMode, setManualSpeed, queueCommand, pressHallCall, pushDestination, setEnabled}
+use Rattle.orders.specs.Orders.{send, setMode, setManualSpeed, setEnabled}
+use Rattle.requests.specs.Requests.{queueCommand, pressHallCall, pushDestination}
 use Rattle.tick.specs.Tick.{tickWorld, tickWords}
 use Rattle.tick.specs.Room.{roomOf}
 use Rattle.record.specs.declared.Recorded.{Recorded}

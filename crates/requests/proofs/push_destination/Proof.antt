@@ -1,11 +1,11 @@
--- `orders::push_destination` meets its contract. Assumes nothing.
+-- `requests::push_destination` meets its contract. Assumes nothing.
 use mathlib.Core.Path.{_∙_}
 use borrow.Author.Tests.{le-leb, lt-leb}
 use Rattle.world.specs.World.{carAt}
-use Rattle.orders.specs.Orders.{pushDestination}
+use Rattle.requests.specs.Requests.{pushDestination}
 use borrow.Author.Needs.{needs}
-use Rattle.orders.proofs.push_destination.Statement.{statement}
-use Rattle.orders.proofs.push_destination.Tie as tie
+use Rattle.requests.proofs.push_destination.Statement.{statement}
+use Rattle.requests.proofs.push_destination.Tie as tie
 
 returns : tie.Need-returns
 unfolding pushDestination

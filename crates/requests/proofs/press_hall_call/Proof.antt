@@ -1,8 +1,8 @@
--- `orders::press_hall_call` meets its contract. Assumes nothing.
+-- `requests::press_hall_call` meets its contract. Assumes nothing.
 use mathlib.Core.Path.{_∙_}
-use Rattle.orders.specs.Orders.{pressHallCall}
-use Rattle.orders.proofs.press_hall_call.Statement.{statement}
-use Rattle.orders.proofs.press_hall_call.Tie as tie
+use Rattle.requests.specs.Requests.{pressHallCall}
+use Rattle.requests.proofs.press_hall_call.Statement.{statement}
+use Rattle.requests.proofs.press_hall_call.Tie as tie
 
 returns : tie.Need-returns
 unfolding pressHallCall

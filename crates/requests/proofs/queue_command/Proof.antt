@@ -1,11 +1,11 @@
--- `orders::queue_command` meets its contract. Assumes nothing.
+-- `requests::queue_command` meets its contract. Assumes nothing.
 use mathlib.Core.Path.{_∙_}
 use borrow.Author.Tests.{le-leb, lt-leb}
 use Rattle.world.specs.World.{carAt}
-use Rattle.orders.specs.Orders.{queueCommand}
+use Rattle.requests.specs.Requests.{queueCommand}
 use borrow.Author.Needs.{needs}
-use Rattle.orders.proofs.queue_command.Statement.{statement}
-use Rattle.orders.proofs.queue_command.Tie as tie
+use Rattle.requests.proofs.queue_command.Statement.{statement}
+use Rattle.requests.proofs.queue_command.Tie as tie
 
 returns : tie.Need-returns
 unfolding queueCommand
