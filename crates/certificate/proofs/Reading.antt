@@ -20,7 +20,8 @@ use Rattle.world.specs.declared.refusal.Refusal.{Refusal}
 use Rattle.world.specs.declared.refusal.Refusal.the-variants.{CutShort}
 use Rattle.sound.proofs.Unbroken.{or-left, or-right, Counts, counts-fit}
 use Rattle.steps.specs.Steps.{isManual}
-use Rattle.tape.specs.Tape.{kindOf, vOf, headOf, modeOf, Kind, kindIn, kinds, recordOf, decoded, unless, lineRecord}
+use Rattle.tape.specs.Tape.{modeOf, Kind, kindIn, kinds, recordOf, decoded, unless, lineRecord}
+use Rattle.fields.specs.Fields.{kindOf, vOf, headOf}
 use Rattle.tape.specs.declared.Decoded.{Decoded}
 use Rattle.tape.specs.declared.Read.{Read}
 use Rattle.tape.specs.declared.Read.the-variants.{Accepted, Refused}

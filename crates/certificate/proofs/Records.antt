@@ -26,7 +26,8 @@ use Rattle.world.specs.declared.ElevatorPhase.the-variants.{MovingToStop, Repos
 use Rattle.world.specs.declared.refusal.Refusal.{Refusal}
 use Rattle.world.specs.declared.refusal.Refusal.the-variants.{BrokenWorld}
 use Rattle.sound.proofs.Unbroken.{or-left, or-right}
-use Rattle.tape.specs.Tape.{kindOf, decoded}
+use Rattle.tape.specs.Tape.{decoded}
+use Rattle.fields.specs.Fields.{kindOf}
 use Rattle.tape.specs.declared.Read.{Read}
 use Rattle.tape.specs.declared.Read.the-variants as Read
 use Rattle.tape.specs.declared.Record.{Record}

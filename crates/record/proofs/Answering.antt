@@ -18,7 +18,8 @@ use Rattle.world.specs.declared.World.{World}
 use Rattle.world.specs.declared.refusal.Refusal.{Refusal}
 use Rattle.world.specs.declared.refusal.Refusal.the-variants.{BrokenWorld, CutShort, NotNow, LastTick, LogShort}
 use Rattle.tape.specs.Tape as Tape
-use Rattle.tape.specs.Tape.{Kind, kinds, kindIn, kindOf, headOf, decoded}
+use Rattle.tape.specs.Tape.{Kind, kinds, kindIn, decoded}
+use Rattle.fields.specs.Fields.{kindOf, headOf}
 use Rattle.tape.specs.Facts.{Facts, InBounds}
 use Rattle.tape.specs.declared.Decoded.{Decoded}
 use Rattle.tape.specs.declared.Read.{Read}

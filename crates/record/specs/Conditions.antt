@@ -11,7 +11,8 @@ use Rattle.world.specs.Refusal.{Check, check}
 use Rattle.world.specs.declared.World.{World}
 use Rattle.world.specs.declared.refusal.Refusal.{Refusal}
 use Rattle.world.specs.declared.refusal.Refusal.the-variants.{BrokenWorld, CutShort, UnknownKind}
-use Rattle.tape.specs.Tape.{Kind, kinds, kindOf, headOf}
+use Rattle.tape.specs.Tape.{Kind, kinds}
+use Rattle.fields.specs.Fields.{kindOf, headOf}
 use Rattle.tape.specs.declared.Decoded.{Decoded}
 use Rattle.tape.specs.declared.Read.{Read}
 use Rattle.tape.specs.declared.Read.the-variants as Read

@@ -1,8 +1,8 @@
--- `tape::body::raw_zero_at` meets its contract. Assumes nothing.
+-- `fields::body::raw_zero_at` meets its contract. Assumes nothing.
 use borrow.Author.Needs.{needs}
-use Rattle.tape.specs.Tape.{rawZeroAt}
-use Rattle.tape.proofs.body.raw_zero_at.Statement.{statement}
-use Rattle.tape.proofs.body.raw_zero_at.Tie as tie
+use Rattle.fields.specs.Fields.{rawZeroAt}
+use Rattle.fields.proofs.body.raw_zero_at.Statement.{statement}
+use Rattle.fields.proofs.body.raw_zero_at.Tie as tie
 
 returns : tie.Need-returns
 unfolding rawZeroAt

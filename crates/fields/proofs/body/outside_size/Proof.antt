@@ -1,6 +1,6 @@
--- `tape::body::outside_size` meets its contract. Assumes nothing.
-use Rattle.tape.proofs.body.outside_size.Statement.{statement}
-use Rattle.tape.proofs.body.outside_size.Tie as tie
+-- `fields::body::outside_size` meets its contract. Assumes nothing.
+use Rattle.fields.proofs.body.outside_size.Statement.{statement}
+use Rattle.fields.proofs.body.outside_size.Tie as tie
 
 returns : tie.Need-returns
 returns c = rw (c .abs .ensures, c .before .is-finite .ensures)

@@ -3,7 +3,7 @@ ghost use mathlib.Core.Path.{_≡_};
 ghost use Prim.Native.Nat.{_+_, _*_, _^_};
 ghost use lib.ListN.{getD};
 ghost use lib.Ieee.{ofBits, binary64};
-ghost use Rattle.tape.specs.Tape.{floatAt, rawZeroAt, outsideSize, outsideFromZero, outsideAboveZero};
+ghost use Rattle.fields.specs.Fields.{floatAt, rawZeroAt, outsideSize, outsideFromZero, outsideAboveZero};
 use float::abs;
 use float::is_finite;
 

@@ -1,8 +1,8 @@
--- `tape::body::float_at` meets its contract. Assumes nothing.
+-- `fields::body::float_at` meets its contract. Assumes nothing.
 use borrow.Author.Needs.{needs}
-use Rattle.tape.specs.Tape.{floatAt}
-use Rattle.tape.proofs.body.float_at.Statement.{statement}
-use Rattle.tape.proofs.body.float_at.Tie as tie
+use Rattle.fields.specs.Fields.{floatAt}
+use Rattle.fields.proofs.body.float_at.Statement.{statement}
+use Rattle.fields.proofs.body.float_at.Tie as tie
 
 returns : tie.Need-returns
 unfolding floatAt

@@ -1,6 +1,6 @@
 // The head word of a record: bits 31-28 kind, 27-24 n, 23-16 s, 15-0 v.
 ghost use mathlib.Core.Path.{_≡_};
-ghost use Rattle.tape.specs.Tape.{headOf};
+ghost use Rattle.fields.specs.Fields.{headOf};
 
 pub struct Head {
     pub kind: u8,

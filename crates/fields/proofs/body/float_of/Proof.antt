@@ -1,10 +1,10 @@
--- `tape::body::float_of` meets its contract. Assumes nothing.
+-- `fields::body::float_of` meets its contract. Assumes nothing.
 use mathlib.Core.Path.{refl}
 use Prim.Native.Nat.{_+_, _*_, _^_}
 use borrow.Author.Needs.{needs}
-use Rattle.tape.proofs.Floats.{nan-above, number-below}
-use Rattle.tape.proofs.body.float_of.Statement.{statement}
-use Rattle.tape.proofs.body.float_of.Tie as tie
+use Rattle.fields.proofs.Floats.{nan-above, number-below}
+use Rattle.fields.proofs.body.float_of.Statement.{statement}
+use Rattle.fields.proofs.body.float_of.Tie as tie
 
 returns : tie.Need-returns
 returns c = nan-above (c .before .args .high * 2 ^ 32 + c .before .args .low) (c .if1 .taken)
