@@ -28,7 +28,8 @@ use Rattle.arrival.specs.Arrival.{asksWork, workOf}
 use Rattle.trips.specs.declared.Trip.{Trip}
 use Rattle.trips.specs.declared.Trip.the-variants.{Rests, Drives, GoesTo, Repositions}
 use Rattle.movement_system.specs.Movement.{turnBy, moveOf}
-use Rattle.movement_system.specs.Parts.{come, wordsBy, movesBy, distanceBy, stepBy, Tells}
+use Rattle.movement_system.specs.Parts.{wordsBy, movesBy, stepBy, Tells}
+use Rattle.moves.specs.Moves.{come, distanceBy}
 use Rattle.movement_system.specs.declared.Emitted.{Emitted}
 use Rattle.movement_system.proofs.Parts.{result, own-lamps, work-lamps}
 
