@@ -16,7 +16,7 @@ use Rattle.world.specs.declared.World.{World}
 use Rattle.world.specs.declared.Car.{Car}
 use Rattle.world.specs.declared.Line.{Line}
 use Rattle.world.specs.declared.StopOption.{StopOption}
-use Rattle.lookup.specs.Stops.{loopNextStopForCar}
+use Rattle.next_stop.specs.NextStop.{loopNextStopForCar}
 use Rattle.log.specs.Log.{Wrote}
 use Rattle.log.proofs.Writing.{wrote-none, also}
 use Rattle.steps.specs.Steps.{Step, lineOf, lampsOf, withDoor, notOpened, stepOf, stepped, runTo, runCars}

@@ -9,7 +9,7 @@ use Rattle.world.specs.declared.World.{World}
 use Rattle.world.specs.declared.Car.{Car}
 use Rattle.world.specs.declared.Line.{Line}
 use Rattle.world.specs.declared.StopOption.{StopOption}
-use Rattle.lookup.specs.Stops.{loopNextStopForCar}
+use Rattle.next_stop.specs.NextStop.{loopNextStopForCar}
 use Rattle.steps.specs.Steps.{lineOf, Step, Run, stepOf, notOpened, runCars}
 use Rattle.door_commands.specs.Commands.{atStop, hasRiderTraversing, processDoorCommands, commandWords}
 use Rattle.door_commands.specs.declared.Work.{Work}

@@ -6,7 +6,8 @@ use lib.Ieee.{Float, binary64, sub, mul, lt}
 use Rattle.float.specs.Float as Float
 use Rattle.float.specs.Float.{epsilon, abs}
 use Rattle.motion.specs.Cyclic.{wrapPosition}
-use Rattle.motion.specs.Movement.{fma, tickMovement, tickMovementCyclic, headwayClampTarget, manualVelocity}
+use Rattle.motion.specs.Movement.{tickMovement, tickMovementCyclic, headwayClampTarget}
+use Rattle.velocity.specs.Velocity.{fma, manualVelocity}
 use Rattle.motion.specs.declared.movement.MovementResult.{MovementResult}
 use Rattle.world.specs.World.{stopAt}
 use Rattle.world.specs.declared.Car.{Car}

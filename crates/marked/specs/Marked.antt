@@ -13,7 +13,7 @@ use Rattle.door.specs.Door.{requestOpen}
 use Rattle.door.specs.Phases.{transitionAt}
 use Rattle.door.specs.declared.DoorTransition.{DoorTransition}
 use Rattle.door.specs.declared.DoorTransition.the-variants.{FinishedOpening, FinishedOpen, FinishedClosing}
-use Rattle.lookup.specs.Stops.{loopNextStopForward}
+use Rattle.next_stop.specs.NextStop.{loopNextStopForward}
 use Rattle.world.specs.declared.StopOption.{StopOption}
 use Rattle.world.specs.declared.StopOption.the-variants.{NoStop, Stop}
 

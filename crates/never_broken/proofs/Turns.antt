@@ -25,8 +25,8 @@ use Rattle.world.specs.declared.ElevatorPhase.{ElevatorPhase}
 use Rattle.world.specs.declared.ElevatorPhase.the-variants.{Idle, MovingToStop, Repositioning, DoorOpening, Loading, DoorClosing, Stopped}
 use Rattle.world.specs.declared.StopOption.{StopOption}
 use Rattle.world.specs.declared.StopOption.the-variants.{NoStop, Stop}
-use Rattle.lookup.specs.Stops.{loopNextStopForward, nextStopBy, loopNextStopForCar}
-use Rattle.lookup.proofs.Served.{next-is-served}
+use Rattle.next_stop.specs.NextStop.{loopNextStopForward, nextStopBy, loopNextStopForCar}
+use Rattle.next_stop.proofs.Served.{next-is-served}
 use Rattle.steps.specs.Steps.{lineOf, Step}
 use Rattle.steps.specs.declared.Lamps.{Lamps}
 use Rattle.steps.specs.declared.Queue.{Queue}

@@ -15,7 +15,7 @@ use Rattle.world.specs.declared.LineKind.{LineKind}
 use Rattle.world.specs.declared.Rider.{Rider}
 use Rattle.world.specs.declared.StopOption.{StopOption}
 use Rattle.world.specs.declared.StopOption.the-variants.{NoStop, Stop}
-use Rattle.lookup.specs.Stops.{loopNextStopForCar}
+use Rattle.next_stop.specs.NextStop.{loopNextStopForCar}
 use Rattle.steps.specs.Steps.{lineOf, Step, stepped, runTo, runCars}
 use Rattle.steps.specs.declared.JustOpened.{JustOpened}
 use Rattle.trips.specs.Trips.{tripOf}

@@ -3,10 +3,11 @@ use mathlib.Core.Path.{refl}
 use lib.Ieee.{ofBits, add, sub, mul, div, rem, neg, lt, le, eq, isNan}
 use Rattle.float.specs.Float.{abs, signum, isFinite, max, remEuclid}
 use Rattle.motion.specs.Cyclic.{wrapPosition, forwardDistance}
-use Rattle.motion.specs.Movement.{decelerated, accelerated, newVelocity, tickMovement, tickMovementCyclic, headwayClampTarget}
+use Rattle.motion.specs.Movement.{tickMovement, tickMovementCyclic, headwayClampTarget}
+use Rattle.velocity.specs.Velocity.{decelerated, accelerated, newVelocity}
 use Rattle.world.specs.Calls.{called}
 use Rattle.world.specs.World.{emptyWorld}
-use Rattle.lookup.specs.Stops.{loopNextStopForCar}
+use Rattle.next_stop.specs.NextStop.{loopNextStopForCar}
 use Rattle.leader.specs.Leader.{leaderTo, loopLeaderPos}
 use Rattle.sorted.specs.Sorted.{positionBefore, stopBefore, inserted, sortedStops}
 use Rattle.log.specs.Words.{word, tickWord}
