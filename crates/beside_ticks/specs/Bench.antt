@@ -12,7 +12,8 @@ use Rattle.world.specs.declared.World.{World}
 use Rattle.world.specs.declared.Car.{Car}
 use Rattle.world.specs.declared.Motion.{Motion}
 use Rattle.world.specs.declared.LineKind.the-variants.{Linear, Loop}
-use Rattle.loads.specs.Loads.{loadStop, loadLine, loadCar, start}
+use Rattle.loads.specs.Loads.{loadStop, loadLine, loadCar}
+use Rattle.changes.specs.Changes.{start}
 use Rattle.orders.specs.Orders.{send}
 use Rattle.steps.specs.Steps.{plus}
 use Rattle.tick.specs.Tick.{tickWorld, tickWords}

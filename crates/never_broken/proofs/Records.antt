@@ -35,10 +35,12 @@ use Rattle.tape.specs.declared.Read.{Read}
 use Rattle.tape.specs.declared.Read.the-variants as Read
 use Rattle.tape.specs.declared.Record.{Record}
 use Rattle.tape.specs.declared.Record.the-variants as Record
-use Rattle.loads.specs.Loads as Loads
-use Rattle.loads.specs.Loads.{notNext, noSuchCar, countWith, lineRow, lineChecks, stopChecks, carChecks, riderChecks, startChecks, loadLine, loadStop, loadCar, loadRider, start}
-use Rattle.loads.specs.declared.Changed.{Changed}
-use Rattle.orders.specs.Orders.{sendChecks, orderChecks, sent, inMode, atSpeed, marked, send, setMode, setManualSpeed, setEnabled}
+use Rattle.changes.specs.Changes as Changes
+use Rattle.loads.specs.Loads.{countWith, lineRow, lineChecks, stopChecks, carChecks, riderChecks, loadLine, loadStop, loadCar, loadRider}
+use Rattle.changes.specs.Changes.{notNext, noSuchCar, startChecks, start}
+use Rattle.changes.specs.declared.Changed.{Changed}
+use Rattle.orders.specs.Orders.{sendChecks, sent, send}
+use Rattle.modes.specs.Modes.{orderChecks, inMode, atSpeed, marked, setMode, setManualSpeed, setEnabled}
 use Rattle.requests.specs.Requests.{commandChecks, callChecks, destinationChecks, commanded, destined, queueCommand, pressHallCall, pushDestination}
 use Rattle.record.specs.declared.Answer.{Answer}
 use Rattle.record.specs.declared.Answer.the-variants.{Accepted, Refused}
@@ -104,7 +106,7 @@ module _ (w : World) (h : Sound w) (log : List ℕ) (used : ℕ) where
   abbrev Keeps : Changed → Type 0
   Keeps c = Good (changed log used c)
 
-  unless-keeps : (cs : List Check) (next : World) → positive cs ≡ true → (Passed cs → Sound next) → Keeps (Loads.unless cs w next)
+  unless-keeps : (cs : List Check) (next : World) → positive cs ≡ true → (Passed cs → Sound next) → Keeps (Changes.unless cs w next)
   unless-keeps [] next e f = record { world = f tt; answer = omega arith }
   unless-keeps (c ∷ cs) next e f =
       let n = ltb 0 (refusalNumber (c .refusal)) in

@@ -16,7 +16,7 @@ use Rattle.world.specs.declared.refusal.Refusal.the-variants.{BrokenWorld, NotN
 use Rattle.tape.specs.Tape.{decoded}
 use Rattle.tape.specs.declared.Read.the-variants as Read
 use Rattle.tape.specs.declared.Record.{Record}
-use Rattle.loads.specs.declared.Changed.{Changed}
+use Rattle.changes.specs.declared.Changed.{Changed}
 use Rattle.log.specs.Log.{Wrote}
 use Rattle.tick.specs.Tick.{tickWorld, tickWords}
 use Rattle.tick.specs.Room.{roomOf, WordsFit}

@@ -18,8 +18,10 @@ use Rattle.tape.specs.declared.Read.{Read}
 use Rattle.tape.specs.declared.Read.the-variants as Read
 use Rattle.tape.specs.declared.Record.{Record}
 use Rattle.tape.specs.declared.Record.the-variants.{Line, Stop, Car, Rider, Send, Mode, ManualSpeed, DoorCommand, HallCall, Destination, Enable, Tick, Start}
-use Rattle.loads.specs.Loads.{lineRow, lineChecks, stopChecks, carChecks, riderChecks, startChecks}
-use Rattle.orders.specs.Orders.{sendChecks, orderChecks}
+use Rattle.loads.specs.Loads.{lineRow, lineChecks, stopChecks, carChecks, riderChecks}
+use Rattle.changes.specs.Changes.{startChecks}
+use Rattle.orders.specs.Orders.{sendChecks}
+use Rattle.modes.specs.Modes.{orderChecks}
 use Rattle.requests.specs.Requests.{commandChecks, callChecks, destinationChecks}
 use Rattle.record.specs.declared.Answer.{Answer}
 use Rattle.record.specs.declared.Answer.the-variants.{Accepted, Refused}

@@ -12,9 +12,9 @@ use Rattle.world.specs.Calls.{pressed}
 use Rattle.world.specs.declared.World.{World}
 use Rattle.world.specs.declared.Car.{Car}
 use Rattle.world.specs.declared.refusal.Refusal.the-variants.{NotNow, NotLoaded, QueueFull}
-use Rattle.loads.specs.declared.Changed.{Changed}
+use Rattle.changes.specs.declared.Changed.{Changed}
 use Rattle.world.specs.Refusal.{Check, check}
-use Rattle.loads.specs.Loads.{unless, noSuchCar}
+use Rattle.changes.specs.Changes.{unless, noSuchCar}
 
 -- 8 door command, appended to the car's door queue
 abbrev pub commanded : Car → DoorCommand → Car

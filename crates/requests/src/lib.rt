@@ -1,10 +1,10 @@
 // Kinds 8, 9 and A: door commands, hall calls and destinations, each where it waits.
 ghost use mathlib.Core.Path.{_≡_};
 ghost use Rattle.requests.specs.Requests as Requests;
+use changes::Changed;
+use changes::accepted;
+use changes::refused;
 use door::DoorCommand;
-use loads::Changed;
-use loads::accepted;
-use loads::refused;
 use sound::unloaded;
 use world::QueuedCommand;
 use world::World;

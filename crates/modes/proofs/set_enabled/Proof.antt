@@ -1,10 +1,10 @@
--- `orders::set_enabled` meets its contract. Assumes nothing.
+-- `modes::set_enabled` meets its contract. Assumes nothing.
 use mathlib.Core.Path.{_∙_}
 use borrow.Author.Tests.{le-leb, lt-leb}
-use Rattle.orders.specs.Orders.{setEnabled}
+use Rattle.modes.specs.Modes.{setEnabled}
 use borrow.Author.Needs.{needs}
-use Rattle.orders.proofs.set_enabled.Statement.{statement}
-use Rattle.orders.proofs.set_enabled.Tie as tie
+use Rattle.modes.proofs.set_enabled.Statement.{statement}
+use Rattle.modes.proofs.set_enabled.Tie as tie
 
 returns : tie.Need-returns
 unfolding setEnabled

@@ -1,9 +1,9 @@
--- `loads::start` meets its contract. Assumes nothing.
+-- `changes::start` meets its contract. Assumes nothing.
 use mathlib.Core.Path.{_∙_}
-use Rattle.loads.specs.Loads.{start}
+use Rattle.changes.specs.Changes.{start}
 use borrow.Author.Needs.{needs}
-use Rattle.loads.proofs.start.Statement.{statement}
-use Rattle.loads.proofs.start.Tie as tie
+use Rattle.changes.proofs.start.Statement.{statement}
+use Rattle.changes.proofs.start.Tie as tie
 
 returns : tie.Need-returns
 unfolding start
