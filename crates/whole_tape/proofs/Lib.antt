@@ -1,0 +1,3 @@
+pub mod Ignoring
+pub mod Joining
+pub mod Computed

@@ -1,0 +1,13 @@
+-- `whole_tape::whole_tape` meets its contract. Assumes nothing.
+use mathlib.Core.Path.{refl}
+use Rattle.whole_tape.proofs.Ignoring.{ignored}
+use Rattle.whole_tape.proofs.Joining.{in-pieces}
+use Rattle.whole_tape.proofs.Computed.{paper-tape}
+use Rattle.whole_tape.proofs.whole_tape.Statement.{statement}
+use Rattle.whole_tape.proofs.whole_tape.Tie as tie
+
+returns : tie.Need-returns
+returns c = (refl, ignored, in-pieces, paper-tape)
+
+pub whole-tape-spec : {M : Type 1} → statement M
+whole-tape-spec = tie.close (tie.spec returns)

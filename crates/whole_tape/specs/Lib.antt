@@ -1,0 +1,3 @@
+pub mod Study
+pub mod WholeTape
+pub mod Example
