@@ -1,17 +1,17 @@
 // f64's methods and the formulas that motion does not export, on plain numbers.
 ghost use mathlib.Core.Path.{_≡_};
-ghost use Rattle.motion.specs.Float as Float;
-ghost use Rattle.motion.specs.Movement as Movement;
-use motion::float::abs;
-use motion::float::clamp;
-use motion::float::is_finite;
-use motion::float::max;
-use motion::float::min;
-use motion::float::rem_euclid;
-use motion::float::signum;
-use motion::float::total_before;
-use motion::fp::fma;
-use motion::movement::manual_velocity;
+ghost use Rattle.float.specs.Float as Float;
+ghost use Rattle.velocity.specs.Velocity as Velocity;
+use float::abs;
+use float::clamp;
+use float::is_finite;
+use float::max;
+use float::min;
+use float::rem_euclid;
+use float::signum;
+use float::total_before;
+use velocity::fp::fma;
+use velocity::manual_velocity;
 
 #[no_mangle]
 pub extern "C" fn float_abs(x: f64) -> f64
@@ -71,7 +71,7 @@ pub extern "C" fn float_total_before(x: f64, y: f64) -> bool
 
 #[no_mangle]
 pub extern "C" fn motion_fma(a: f64, b: f64, c: f64) -> f64
-    ensures { λ r. ⌜ r ≡ Movement.fma a b c ⌝ }
+    ensures { λ r. ⌜ r ≡ Velocity.fma a b c ⌝ }
 {
     fma(a, b, c)
 }
@@ -85,7 +85,7 @@ pub extern "C" fn motion_manual_velocity(
     decel: f64,
     dt: f64,
 ) -> f64
-    ensures { λ r. ⌜ r ≡ Movement.manualVelocity target vel «max_speed» accel decel dt ⌝ }
+    ensures { λ r. ⌜ r ≡ Velocity.manualVelocity target vel «max_speed» accel decel dt ⌝ }
 {
     manual_velocity(target, vel, max_speed, accel, decel, dt)
 }

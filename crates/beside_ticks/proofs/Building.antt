@@ -11,7 +11,7 @@ use Rattle.world.specs.World.{carAt}
 use Rattle.world.specs.declared.World.{World}
 use Rattle.world.specs.declared.Car.{Car}
 use Rattle.loads.specs.Loads.{loadStop, loadCar}
-use Rattle.loads.specs.declared.Changed.{Changed}
+use Rattle.changes.specs.declared.Changed.{Changed}
 use Rattle.orders.specs.Orders.{send}
 use Rattle.log.specs.Log.{Wrote}
 use Rattle.steps.specs.Steps.{plus}

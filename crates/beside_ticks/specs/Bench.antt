@@ -5,14 +5,15 @@ use Prim.Native.Nat.{ℕ, zero, suc, _+_, _*_, _%_, min}
 use lib.Dec.{eqb}
 use lib.ListN.{length, set, replicate}
 use lib.Ieee.{Float, binary64, ofBits, add, sub, mul}
-use Rattle.motion.specs.Float as Float
-use Rattle.motion.specs.Float.{numberBits}
+use Rattle.float.specs.Float as Float
+use Rattle.float.specs.Float.{numberBits}
 use Rattle.world.specs.World.{carAt, emptyWorld}
 use Rattle.world.specs.declared.World.{World}
 use Rattle.world.specs.declared.Car.{Car}
 use Rattle.world.specs.declared.Motion.{Motion}
 use Rattle.world.specs.declared.LineKind.the-variants.{Linear, Loop}
-use Rattle.loads.specs.Loads.{loadStop, loadLine, loadCar, start}
+use Rattle.loads.specs.Loads.{loadStop, loadLine, loadCar}
+use Rattle.changes.specs.Changes.{start}
 use Rattle.orders.specs.Orders.{send}
 use Rattle.steps.specs.Steps.{plus}
 use Rattle.tick.specs.Tick.{tickWorld, tickWords}

@@ -1,13 +1,13 @@
 // Ticks for the bench: 16 cars and 64 stops, a line or a loop, built by records' functions, run and summed up.
 ghost use mathlib.Core.Path.{_≡_};
 ghost use lib.ListN.{length};
-ghost use Rattle.motion.specs.Float.{numberBits};
+ghost use Rattle.float.specs.Float.{numberBits};
 ghost use Rattle.steps.specs.Steps.{plus};
 ghost use Rattle.beside_ticks.specs.Bench as Bench;
+use changes::start;
 use loads::load_car;
 use loads::load_line;
 use loads::load_stop;
-use loads::start;
 use orders::send;
 use std::num::wrapping_add_u64;
 use world::Car;

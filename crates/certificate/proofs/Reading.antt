@@ -9,18 +9,19 @@ use mathlib.Core.Logic.{_⊎_, ⊎-elim}
 use lib.Dec.{eqb, leb, ltb}
 use lib.ListN.{length, getD}
 use borrow.Author.Tests.{eqb-true, leb-false}
-use Rattle.motion.proofs.Cases.{yes}
+use Rattle.float.proofs.Cases.{yes}
 use Rattle.world.specs.World.{carAt, lineAt, riderAt}
-use Rattle.world.specs.Sound.{anyTo, carBroken, lineBroken, riderBroken, countsBroken, broken, unloaded, phaseUnloaded, stopUnloaded, callsUnloaded}
+use Rattle.sound.specs.Sound.{anyTo, carBroken, lineBroken, riderBroken, countsBroken, broken, unloaded, phaseUnloaded, stopUnloaded, callsUnloaded}
 use Rattle.world.specs.Refusal.{Check, check}
 use Rattle.world.specs.declared.World.{World}
 use Rattle.world.specs.declared.Car.{Car}
 use Rattle.world.specs.declared.ServiceMode.{ServiceMode}
 use Rattle.world.specs.declared.refusal.Refusal.{Refusal}
 use Rattle.world.specs.declared.refusal.Refusal.the-variants.{CutShort}
-use Rattle.world.proofs.Unbroken.{or-left, or-right, Counts, counts-fit}
+use Rattle.sound.proofs.Unbroken.{or-left, or-right, Counts, counts-fit}
 use Rattle.steps.specs.Steps.{isManual}
-use Rattle.tape.specs.Tape.{kindOf, vOf, headOf, modeOf, Kind, kindIn, kinds, recordOf, decoded, unless, lineRecord}
+use Rattle.tape.specs.Tape.{modeOf, Kind, kindIn, kinds, recordOf, decoded, unless, lineRecord}
+use Rattle.fields.specs.Fields.{kindOf, vOf, headOf}
 use Rattle.tape.specs.declared.Decoded.{Decoded}
 use Rattle.tape.specs.declared.Read.{Read}
 use Rattle.tape.specs.declared.Read.the-variants.{Accepted, Refused}

@@ -10,13 +10,13 @@ use lib.ListN.{length, set, take, drop, length-set}
 use lib.Seq.{getD-set-same, getD-set-other, sets, sets-eq, take-at}
 use lib.Ieee.{Float}
 use borrow.Author.Tests.{eqb-true, ltb-false, leb-false, not-false}
-use Rattle.motion.proofs.Cases.{no}
+use Rattle.float.proofs.Cases.{no}
 use Rattle.door.specs.Door.{isClosed}
 use Rattle.door.specs.declared.DoorState.{DoorState}
 use Rattle.door.specs.declared.DoorState.the-variants.{Closed}
 use Rattle.world.specs.World.{carAt, noCar, newCar}
 use Rattle.world.specs.With.{withCar, withCars}
-use Rattle.world.specs.Sound.{broken, unloaded}
+use Rattle.sound.specs.Sound.{broken, unloaded}
 use Rattle.world.specs.Refusal.{Check, check}
 use Rattle.world.specs.declared.World.{World}
 use Rattle.world.specs.declared.Car.{Car}
@@ -25,17 +25,24 @@ use Rattle.world.specs.declared.ElevatorPhase.{ElevatorPhase}
 use Rattle.world.specs.declared.ElevatorPhase.the-variants.{MovingToStop, Repositioning}
 use Rattle.world.specs.declared.refusal.Refusal.{Refusal}
 use Rattle.world.specs.declared.refusal.Refusal.the-variants.{BrokenWorld}
-use Rattle.world.proofs.Unbroken.{or-left, or-right}
-use Rattle.tape.specs.Tape.{kindOf, decoded}
+use Rattle.sound.proofs.Unbroken.{or-left, or-right}
+use Rattle.tape.specs.Tape.{decoded}
+use Rattle.fields.specs.Fields.{kindOf}
 use Rattle.tape.specs.declared.Read.{Read}
 use Rattle.tape.specs.declared.Read.the-variants as Read
 use Rattle.tape.specs.declared.Record.{Record}
 use Rattle.tape.specs.declared.Record.the-variants as Record
 use Rattle.loads.specs.Loads as Loads
-use Rattle.loads.specs.Loads.{loadLine, loadStop, loadCar, loadRider, start}
-use Rattle.loads.specs.declared.Changed.{Changed}
+use Rattle.changes.specs.Changes as Changes
+use Rattle.loads.specs.Loads.{loadLine, loadStop, loadCar, loadRider}
+use Rattle.changes.specs.Changes.{start}
+use Rattle.changes.specs.declared.Changed.{Changed}
 use Rattle.orders.specs.Orders as Orders
-use Rattle.orders.specs.Orders.{send, setMode, setManualSpeed, queueCommand, pressHallCall, pushDestination, setEnabled}
+use Rattle.modes.specs.Modes as Modes
+use Rattle.requests.specs.Requests as Requests
+use Rattle.orders.specs.Orders.{send}
+use Rattle.modes.specs.Modes.{setMode, setManualSpeed, setEnabled}
+use Rattle.requests.specs.Requests.{queueCommand, pressHallCall, pushDestination}
 use Rattle.tick.specs.Tick.{tickWords}
 use Rattle.tick.specs.Room.{roomOf, WordsFit}
 use Rattle.tick.specs.Counters.{sumTo}
@@ -63,10 +70,10 @@ unless-cases P (c ∷ cs) w log o r p =
     cases P (c .holds) {x = refused w log (c .refusal)} {y = unless cs w log o} (λ h. r (c .refusal)) (λ h. unless-cases P cs w log o r (λ q. p (h, q)))
 
 changed-cases : (P : Outcome → Type 0) (cs : List Check) (w v : World) (log : List ℕ) (used : ℕ) → ((r : Refusal) → P (refused w log r))
-    → (Passed cs → P (accepted used 0 v log)) → P (changed log used (Loads.unless cs w v))
+    → (Passed cs → P (accepted used 0 v log)) → P (changed log used (Changes.unless cs w v))
 changed-cases P [] w v log used r p = p tt
 changed-cases P (c ∷ cs) w v log used r p =
-    cases (λ (x : Changed). P (changed log used x)) (c .holds) {x = Loads.refused w (c .refusal)} {y = Loads.unless cs w v} (λ h. r (c .refusal))
+    cases (λ (x : Changed). P (changed log used x)) (c .holds) {x = Changes.refused w (c .refusal)} {y = Changes.unless cs w v} (λ h. r (c .refusal))
     (λ h. changed-cases P cs w v log used r (λ q. p (h, q)))
 
 -- ---- what a record that is no tick leaves
@@ -128,7 +135,7 @@ send-sound stop reposition p d o loading e = no e
 send-sound stop reposition p d o closing e = no e
 
 module _ (w : World) (j : List ℕ) (h : Keeps j w) (i : ℕ) where
-  loaded : Loads.noSuchCar w i ≡ false → i < w .«car_count»
+  loaded : Changes.noSuchCar w i ≡ false → i < w .«car_count»
   loaded q = leb-false (w .«car_count») i (or-right (leb 16 i) (unloaded (w .«car_count») i) q)
 
   -- an order that leaves the car fit
@@ -180,7 +187,7 @@ module _ (w : World) (c : Call) (j : List ℕ) (h : Keeps j w) (used : ℕ) wher
   refuses r = quiet (refused w (c .log) r) refl h
 
   -- a record that is no tick
-  plain : (cs : List Check) (v : World) → eqb (kindOf (headWord c)) 12 ≡ false → (Passed cs → Keeps j v) → Gives w c j (changed (c .log) used (Loads.unless cs w v))
+  plain : (cs : List Check) (v : World) → eqb (kindOf (headWord c)) 12 ≡ false → (Passed cs → Keeps j v) → Gives w c j (changed (c .log) used (Changes.unless cs w v))
   plain cs v t k = changed-cases (Gives w c j) cs w v (c .log) used refuses (λ q. quiet (accepted used 0 v (c .log)) t (k q))
 
   module _ (dt : Float) where
@@ -215,7 +222,7 @@ module _ (w : World) (c : Call) (j : List ℕ) (h : Keeps j w) (used : ℕ) wher
   unfolding send
   send-kept car stop reposition e =
       plain (Orders.sendChecks w car stop) (withCar w car (Orders.sent mine stop reposition)) e
-      (λ q. sent (loaded w j h car (or-left (Loads.noSuchCar w car) (unloaded (w .«stop_count») stop) (q .1 .0)))
+      (λ q. sent (loaded w j h car (or-left (Changes.noSuchCar w car) (unloaded (w .«stop_count») stop) (q .1 .0)))
       (not-false (Orders.canGo (mine .phase)) (or-right (not (mine .enabled)) (not (Orders.canGo (mine .phase))) (q .1 .1 .0))))
     where
       mine : Car
@@ -228,9 +235,9 @@ module _ (w : World) (c : Call) (j : List ℕ) (h : Keeps j w) (used : ℕ) wher
           (record { sound = send-sound stop reposition (mine .phase) (mine .door) (openAfter car false j) (f .sound) g; tame = f .tame }) refl
 
   -- an order that leaves phase and door
-  order : (cs : List Check) (car : ℕ) (d : Car) → eqb (kindOf (headWord c)) 12 ≡ false → (Passed cs → Loads.noSuchCar w car ≡ false)
+  order : (cs : List Check) (car : ℕ) (d : Car) → eqb (kindOf (headWord c)) 12 ≡ false → (Passed cs → Changes.noSuchCar w car ≡ false)
       → (Fit (carAt (w .cars) car) (openAfter car false j) → Fit d (openAfter car false j)) → d .«move_count» ≡ carAt (w .cars) car .«move_count»
-      → Gives w c j (changed (c .log) used (Loads.unless cs w (withCar w car d)))
+      → Gives w c j (changed (c .log) used (Changes.unless cs w (withCar w car d)))
   order cs car d e known f m =
       plain cs (withCar w car d) e
       (λ q. let l : car < w .«car_count» = loaded w j h car (known q) in ordered w j h car d l (f (fit w j h car l)) m)
@@ -246,26 +253,26 @@ module _ (w : World) (c : Call) (j : List ℕ) (h : Keeps j w) (p : putsManual w
   taken-kept (Record.Rider number rider) s = plain w c j h used (Loads.riderChecks w number rider) _ s (λ q. h)
   taken-kept (Record.Send car stop reposition) s = send-kept w c j h used car stop reposition s
   taken-kept (Record.Mode car mode) s =
-      let d : Car = Orders.inMode (carAt (w .cars) car) mode in
-      changed-cases (Gives w c j) (Orders.orderChecks w car) w (withCar w car d) (c .log) used (refuses w c j h used)
+      let d : Car = Modes.inMode (carAt (w .cars) car) mode in
+      changed-cases (Gives w c j) (Modes.orderChecks w car) w (withCar w car d) (c .log) used (refuses w c j h used)
       (λ q e. let l : car < w .«car_count» = loaded w j h car (q .1 .0) in
       quiet w c j h used (accepted used 0 (withCar w car d) (c .log)) (s .0)
       (ordered w j h car d l (record { sound = fit w j h car l .sound; tame = s .1 (rw e at p) }) refl) e)
   taken-kept (Record.ManualSpeed car speed) s =
-      order w c j h used (Orders.orderChecks w car) car (Orders.atSpeed (carAt (w .cars) car) speed) s (λ q. q .1 .0)
+      order w c j h used (Modes.orderChecks w car) car (Modes.atSpeed (carAt (w .cars) car) speed) s (λ q. q .1 .0)
       (λ f. record { sound = f .sound; tame = f .tame }) refl
   taken-kept (Record.DoorCommand car command) s =
-      order w c j h used (Orders.commandChecks w car) car (Orders.commanded (carAt (w .cars) car) command) s (λ q. q .1 .0)
+      order w c j h used (Requests.commandChecks w car) car (Requests.commanded (carAt (w .cars) car) command) s (λ q. q .1 .0)
       (λ f. record { sound = f .sound; tame = f .tame }) refl
-  taken-kept (Record.HallCall stop down) s = plain w c j h used (Orders.callChecks w stop) _ s (λ q. h)
+  taken-kept (Record.HallCall stop down) s = plain w c j h used (Requests.callChecks w stop) _ s (λ q. h)
   taken-kept (Record.Destination car stop) s =
-      order w c j h used (Orders.destinationChecks w car stop) car (Orders.destined (carAt (w .cars) car) stop) s
-      (λ q. or-left (Loads.noSuchCar w car) (unloaded (w .«stop_count») stop) (q .1 .0)) (λ f. record { sound = f .sound; tame = f .tame }) refl
+      order w c j h used (Requests.destinationChecks w car stop) car (Requests.destined (carAt (w .cars) car) stop) s
+      (λ q. or-left (Changes.noSuchCar w car) (unloaded (w .«stop_count») stop) (q .1 .0)) (λ f. record { sound = f .sound; tame = f .tame }) refl
   taken-kept (Record.Enable car enabled) s =
-      order w c j h used (Orders.orderChecks w car) car (Orders.marked (carAt (w .cars) car) enabled) s (λ q. q .1 .0)
+      order w c j h used (Modes.orderChecks w car) car (Modes.marked (carAt (w .cars) car) enabled) s (λ q. q .1 .0)
       (λ f. record { sound = f .sound; tame = f .tame }) refl
   taken-kept (Record.Tick dt) s = tick-kept w c j h used dt u s
-  taken-kept Record.Start s = plain w c j h used (Loads.startChecks w) _ s (λ q. h)
+  taken-kept Record.Start s = plain w c j h used (Changes.startChecks w) _ s (λ q. h)
 
 read-kept : (w : World) (c : Call) (j : List ℕ) → Keeps j w → putsManual w c ≡ false → Unbroken w → (serves : List ℕ) (r : Read) → Reads (headWord c) r
     → Gives w c j (readBy w (c .log) serves r)

@@ -6,7 +6,7 @@ use Prim.Native.Nat.{ℕ, zero, suc, _+_, _-_, _*_, _<_, min}
 use lib.Dec.{leb}
 use lib.Ieee.{Float}
 use Rattle.motion.specs.declared.movement.MovementResult.{MovementResult}
-use Rattle.motion.proofs.Cases.{yes, no}
+use Rattle.float.proofs.Cases.{yes, no}
 use Rattle.door.specs.Door.{isClosed, tick}
 use Rattle.door.specs.declared.Ticked.{Ticked}
 use Rattle.door.specs.declared.DoorState.{DoorState}
@@ -29,17 +29,18 @@ use Rattle.steps.specs.Steps.{isManual, isInspection, lineOf, lampsOf, bothLit,
 use Rattle.steps.specs.declared.Lamps.{Lamps}
 use Rattle.trips.specs.Trips.{tripBy, tripOf, travelled, distanceAfter}
 use Rattle.trips.specs.Spans.{spanOf, movingUp}
-use Rattle.trips.specs.Landing.{leaderOf, landing}
-use Rattle.trips.specs.Arrival.{arrivalLamps, workOf}
+use Rattle.landing.specs.Landing.{leaderOf, landing}
+use Rattle.arrival.specs.Arrival.{arrivalLamps, workOf}
 use Rattle.trips.specs.declared.Trip.{Trip}
 use Rattle.trips.specs.declared.Trip.the-variants.{Rests, GoesTo, Repositions}
 use Rattle.movement_system.specs.Passing.{passingWords}
 use Rattle.movement_system.specs.Movement as Movement
 use Rattle.movement_system.specs.Movement.{passedOver, moveOf}
-use Rattle.doors_system.specs.Commands.{applyOpen, applyClose, applyHold, applyCancelHold, tryApplyCommand, queued, triedOn, workTo, workWordsTo, processDoorCommands, commandWords}
-use Rattle.doors_system.specs.Doors.{Turn, departedFrom, finishedOpening, finishedClosing, finishBy, stays, rests, doorBy, doorTurn, doorOf}
-use Rattle.doors_system.specs.declared.commands.Tried.{Tried}
-use Rattle.doors_system.specs.declared.commands.Work.{Work}
+use Rattle.door_commands.specs.Commands.{applyOpen, applyClose, applyHold, applyCancelHold, tryApplyCommand, queued, triedOn, workTo, workWordsTo, processDoorCommands, commandWords}
+use Rattle.doors_system.specs.Doors.{doorTurn, doorOf}
+use Rattle.door_ticks.specs.Ticks.{Turn, departedFrom, finishedOpening, finishedClosing, finishBy, stays, rests, doorBy}
+use Rattle.door_commands.specs.declared.Tried.{Tried}
+use Rattle.door_commands.specs.declared.Work.{Work}
 use Rattle.tick.proofs.Passed.{both, cases}
 use Rattle.certificate.proofs.Watch.{Told, told-none, told-join, told-dull, told-word}
 

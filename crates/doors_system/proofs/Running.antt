@@ -16,17 +16,19 @@ use Rattle.world.specs.declared.World.{World}
 use Rattle.world.specs.declared.Car.{Car}
 use Rattle.world.specs.declared.Line.{Line}
 use Rattle.world.specs.declared.StopOption.{StopOption}
-use Rattle.lookup.specs.Stops.{loopNextStopForCar}
+use Rattle.next_stop.specs.NextStop.{loopNextStopForCar}
 use Rattle.log.specs.Log.{Wrote}
 use Rattle.log.proofs.Writing.{wrote-none, also}
 use Rattle.steps.specs.Steps.{Step, lineOf, lampsOf, withDoor, notOpened, stepOf, stepped, runTo, runCars}
 use Rattle.steps.specs.declared.JustOpened.{JustOpened}
-use Rattle.doors_system.specs.Commands.{atStop, hasRiderTraversing, unworked, processDoorCommands, commandWords}
-use Rattle.doors_system.specs.Doors.{Turn, turned, rested, stays, Turns, turnBy, doorTurn, hasTurn, turnOn, stepBy, doorOf, Clears, clearTo, clearWordsTo, doored, standing, carsOf, doorsWorld, doorsWords}
-use Rattle.doors_system.specs.declared.commands.Work.{Work}
-use Rattle.doors_system.specs.declared.Turned.{Turned}
-use Rattle.doors_system.specs.declared.calls.Calls.{Calls}
-use Rattle.doors_system.proofs.Working.{no-work, no-words}
+use Rattle.door_commands.specs.Commands.{atStop, hasRiderTraversing, unworked, processDoorCommands, commandWords}
+use Rattle.doors_system.specs.Doors.{turnBy, doorTurn, hasTurn, turnOn, stepBy, doorOf, doored, standing, carsOf, doorsWorld, doorsWords}
+use Rattle.door_ticks.specs.Ticks.{Turn, turned, rested, stays, Turns}
+use Rattle.hall_calls.specs.Clearing.{Clears, clearTo, clearWordsTo}
+use Rattle.door_commands.specs.declared.Work.{Work}
+use Rattle.door_ticks.specs.declared.Turned.{Turned}
+use Rattle.hall_calls.specs.declared.Calls.{Calls}
+use Rattle.door_commands.proofs.Working.{no-work, no-words}
 
 -- the first i cars' turns made by code: the world, the doors just opened, and what was written
 pub record Runs (turn : World → ℕ → Step) (world : World) (l : List ℕ) (at i : ℕ) (w : World) (opened : List JustOpened) (l′ : List ℕ) (to : ℕ) : Type 0 where

@@ -1,10 +1,11 @@
 // Small tapes, a line each: a name, '=', and the words in hexadecimal. Every record but the last sets the scene.
 // It prints what the last one is answered, or which earlier one was refused. A line that begins with '#' is a heading.
 ghost use Prim.Native.Nat.{_≤_};
+use changes::Changed;
+use changes::Taken;
 use libc::STDIN_FILENO;
 use libc::STDOUT_FILENO;
-use loads::Changed;
-use loads::Taken;
+use sound::broken;
 use tape::Read;
 use tape::Record;
 use tape::decode;
@@ -12,7 +13,6 @@ use world::World;
 use world::empty::empty;
 use world::refusal::Refusal;
 use world::refusal::number;
-use world::sound::broken;
 
 // How a tape's last record was answered.
 enum End {
@@ -159,7 +159,7 @@ fn load(world: World, record: Record, serves: [u8; 64]) -> Changed {
             door_open_ticks,
         ),
         Record::Rider { number, rider } => loads::load_rider(world, number, rider),
-        Record::Start => loads::start(world),
+        Record::Start => changes::start(world),
         _ => order(world, record),
     }
 }
@@ -172,13 +172,13 @@ fn order(world: World, record: Record) -> Changed {
             stop,
             reposition,
         } => orders::send(world, car, stop, reposition),
-        Record::Mode { car, mode } => orders::set_mode(world, car, mode),
-        Record::ManualSpeed { car, speed } => orders::set_manual_speed(world, car, speed),
-        Record::DoorCommand { car, command } => orders::queue_command(world, car, command),
-        Record::HallCall { stop, down } => orders::press_hall_call(world, stop, down),
-        Record::Destination { car, stop } => orders::push_destination(world, car, stop),
-        Record::Enable { car, enabled } => orders::set_enabled(world, car, enabled),
-        _ => loads::accepted(world),
+        Record::Mode { car, mode } => modes::set_mode(world, car, mode),
+        Record::ManualSpeed { car, speed } => modes::set_manual_speed(world, car, speed),
+        Record::DoorCommand { car, command } => requests::queue_command(world, car, command),
+        Record::HallCall { stop, down } => requests::press_hall_call(world, stop, down),
+        Record::Destination { car, stop } => requests::push_destination(world, car, stop),
+        Record::Enable { car, enabled } => modes::set_enabled(world, car, enabled),
+        _ => changes::accepted(world),
     }
 }
 

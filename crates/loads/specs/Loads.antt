@@ -1,5 +1,5 @@
--- What the state refuses of a record, and what a record that loads does to the world: kinds 1 to 4 and D.
-use mathlib.Core.Bool.{Bool, true, not, _||_, cond}
+-- What the state refuses of a record that loads, and what it does to the world: kinds 1 to 4.
+use mathlib.Core.Bool.{Bool, _||_, cond}
 use mathlib.Core.List.{List, [], _∷_}
 use Prim.Native.Nat.{ℕ, _+_}
 use lib.Dec.{leb, ltb, eqb}
@@ -7,40 +7,16 @@ use lib.ListN.{set}
 use lib.Ieee.{Float}
 use Rattle.world.specs.World.{newCar}
 use Rattle.world.specs.With.{withPlan, withCars, withPeople}
-use Rattle.world.specs.Sound.{unloaded, lineBroken, riderBroken}
+use Rattle.sound.specs.Sound.{unloaded, lineBroken, riderBroken}
 use Rattle.world.specs.Refusal.{Check, check}
 use Rattle.world.specs.declared.World.{World}
 use Rattle.world.specs.declared.Line.{Line}
 use Rattle.world.specs.declared.LineKind.{LineKind}
 use Rattle.world.specs.declared.Motion.{Motion}
 use Rattle.world.specs.declared.Rider.{Rider}
-use Rattle.world.specs.declared.refusal.Refusal.{Refusal}
 use Rattle.world.specs.declared.refusal.Refusal.the-variants.{NotNow, NotNext, NotLoaded}
-use Rattle.loads.specs.declared.Changed.{Changed}
-use Rattle.loads.specs.declared.Taken.the-variants.{Accepted, Refused}
-
--- ---- what the state says
-
-abbrev pub refused : World → Refusal → Changed
-refused w r = record { taken = Refused r; world = w }
-
-abbrev pub accepted : World → Changed
-accepted w = record { taken = Accepted; world = w }
-
--- the first refusal whose condition holds, the world unchanged; else the world `next`
-abbrev pub unless : List Check → World → World → Changed
-unless [] w next = accepted next
-unless (c ∷ cs) w next = cond (c .holds) (refused w (c .refusal)) (unless cs w next)
-
--- 7: a number that is not the next unused one of a table of that size; a full table has none
-abbrev pub notNext : ℕ → ℕ → ℕ → Bool
-notNext size count number = leb size number || not (eqb number count)
-
--- 8: a car that is not loaded; past the table's end there is none
-abbrev pub noSuchCar : World → ℕ → Bool
-noSuchCar w car = leb 16 car || unloaded (w .«car_count») car
-
--- ---- loading: kinds 1 to 4 and D
+use Rattle.changes.specs.declared.Changed.{Changed}
+use Rattle.changes.specs.Changes.{unless, notNext}
 
 -- 1 line
 abbrev pub lineRow : LineKind → Bool → ℕ → List ℕ → Line
@@ -103,13 +79,3 @@ withRider w number rider =
 
 unfoldable pub loadRider : World → ℕ → Rider → Changed
 loadRider w number rider = unless (riderChecks w number rider) w (withRider w number rider)
-
--- D start
-abbrev pub startChecks : World → List Check
-startChecks w = check NotNow (w .started) ∷ []
-
-abbrev pub withStart : World → World
-withStart w = withPlan w (w .stops) (w .«stop_count») (w .lines) (w .«line_count») true
-
-unfoldable pub start : World → Changed
-start w = unless (startChecks w) w (withStart w)

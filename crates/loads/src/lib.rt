@@ -1,8 +1,13 @@
-// Kinds 1 to 4 and D: what is loaded, and the start. What the state refuses, and the world after the record.
+// Kinds 1 to 4: what is loaded. What the state refuses, and the world after the record.
 ghost use mathlib.Core.Path.{_≡_};
-ghost use mathlib.Core.Bool.{_||_};
 ghost use Prim.Native.Nat.{_+_};
 ghost use Rattle.loads.specs.Loads as Loads;
+use changes::Changed;
+use changes::accepted;
+use changes::refused;
+use sound::line_broken;
+use sound::rider_broken;
+use sound::unloaded;
 use world::Line;
 use world::LineKind;
 use world::Motion;
@@ -10,40 +15,6 @@ use world::Rider;
 use world::World;
 use world::empty::new_car;
 use world::refusal::Refusal;
-use world::sound::line_broken;
-use world::sound::rider_broken;
-use world::sound::unloaded;
-
-// What the state says of a record.
-pub enum Taken {
-    Accepted,
-    Refused(Refusal),
-}
-
-// What it says, and the world after it: on a refusal the one that was given.
-pub struct Changed {
-    pub taken: Taken,
-    pub world: World,
-}
-
-// A refusal: the world is the one that was given.
-pub fn refused(world: World, refusal: Refusal) -> Changed
-    ensures { λ r. ⌜ r ≡ Loads.refused world refusal ⌝ }
-{
-    Changed {
-        taken: Taken::Refused(refusal),
-        world,
-    }
-}
-
-pub fn accepted(world: World) -> Changed
-    ensures { λ r. ⌜ r ≡ Loads.accepted world ⌝ }
-{
-    Changed {
-        taken: Taken::Accepted,
-        world,
-    }
-}
 
 // Kind 2.
 pub fn load_stop(world: World, number: u8, position: f64) -> Changed
@@ -90,18 +61,6 @@ pub fn load_rider(world: World, number: u8, rider: Rider) -> Changed
     let mut next = world;
     next.riders[at] = rider;
     next.rider_count = count_with(world.rider_count, number);
-    accepted(next)
-}
-
-// Kind D.
-pub fn start(world: World) -> Changed
-    ensures { λ r. ⌜ r ≡ Loads.start world ⌝ }
-{
-    if world.started {
-        return refused(world, Refusal::NotNow);
-    }
-    let mut next = world;
-    next.started = true;
     accepted(next)
 }
 

@@ -1,4 +1,1 @@
 pub mod Stops
-pub mod Leader
-pub mod Ahead
-pub mod Sorted

@@ -5,7 +5,7 @@ use mathlib.Core.List.{List, [], _∷_}
 use Prim.Native.Nat.{ℕ}
 use lib.ListN.{length}
 use lib.Ieee.{Float, binary64, ofBits}
-use Rattle.motion.specs.Float.{zero, one, two}
+use Rattle.float.specs.Float.{zero, one, two}
 use Rattle.motion.specs.Cyclic.{wrapPosition, forwardDistance}
 use Rattle.motion.specs.Movement.{tickMovement, headwayClampTarget}
 use Rattle.motion.specs.declared.movement.MovementResult.{MovementResult}
@@ -13,7 +13,7 @@ use Rattle.door.specs.Door.{requestOpen}
 use Rattle.door.specs.Phases.{transitionAt}
 use Rattle.door.specs.declared.DoorTransition.{DoorTransition}
 use Rattle.door.specs.declared.DoorTransition.the-variants.{FinishedOpening, FinishedOpen, FinishedClosing}
-use Rattle.lookup.specs.Stops.{loopNextStopForward}
+use Rattle.next_stop.specs.NextStop.{loopNextStopForward}
 use Rattle.world.specs.declared.StopOption.{StopOption}
 use Rattle.world.specs.declared.StopOption.the-variants.{NoStop, Stop}
 

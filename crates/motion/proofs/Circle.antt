@@ -11,11 +11,11 @@ use lib.Ieee.{Float, nan, inf, fin, binary64, up, down, round, sum, add, sub, ne
 use lib.Ieee.Fits.{up-pos, down-pos}
 use lib.Ieee.Order.{round-mono}
 use borrow.Author.Tests.{ltb-true, ltb-false, eqb-true, eqb-false, lt-ltb, le-ltb}
-use Rattle.motion.specs.Float as F64
+use Rattle.float.specs.Float as F64
 use Rattle.motion.specs.Cyclic.{degenerate, wrapPosition, forwardDistance}
 use Rattle.motion.specs.Facts.{IsCircle, WrapInCircle, ForwardInCircle, ForwardIsNumber}
-use Rattle.motion.proofs.Cases.{no, yes, holds, lt-zero-pos, lt-zero-neg, nil, and-left}
-use Rattle.motion.proofs.Rounding.{own, Plus, plus-round, neg-round, Within, within-neg, within-of-le, le-true}
+use Rattle.float.proofs.Cases.{no, yes, holds, lt-zero-pos, lt-zero-neg, nil, and-left}
+use Rattle.float.proofs.Rounding.{own, Plus, plus-round, neg-round, Within, within-neg, within-of-le, le-true}
 
 -- a fraction of at most c is at most c when it is rounded
 round-plain : (v k n : ℕ) (d : ℤ) → T (fits binary64 (fin false (suc n) d)) → 0 < k → v * down d ≤ suc n * up d * k → Within (round binary64 false v k) (suc n) d

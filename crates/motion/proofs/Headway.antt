@@ -11,13 +11,13 @@ use lib.Ieee.{Float, nan, inf, fin, binary64, up, down, round, sum, add, sub, lt
 use lib.Ieee.Fits.{down-pos}
 use lib.Ieee.Order.{round-mono}
 use lib.Ieee.Positive.{through}
-use Rattle.motion.specs.Float as F64
+use Rattle.float.specs.Float as F64
 use Rattle.motion.specs.Cyclic.{wrapPosition, forwardDistance}
 use Rattle.motion.specs.Movement.{headwayClampTarget}
 use Rattle.motion.specs.Facts.{IsCircle, InCircle, WrapInCircle, ForwardInCircle, HeadwayInCircle}
-use Rattle.motion.proofs.Cases.{no, yes, holds}
-use Rattle.motion.proofs.Rounding.{Plus, plus-round, Within, le-nat}
-use Rattle.motion.proofs.Sides.{over}
+use Rattle.float.proofs.Cases.{no, yes, holds}
+use Rattle.float.proofs.Rounding.{Plus, plus-round, Within, le-nat}
+use Rattle.float.proofs.Sides.{over}
 use Rattle.motion.proofs.Circle.{le-zero-plus, null-le-zero, minus-le-zero, lt-nat, wrap-in-circle, Placed, placed-minus, placed, over-one, signed-within, forward-in-circle}
 
 -- max of anything and 0 is at or above 0

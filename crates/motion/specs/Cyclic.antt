@@ -1,7 +1,7 @@
 -- components/cyclic.rs, over the logic's IEEE 754. Each operation rounds once.
 use mathlib.Core.Bool.{Bool, not, _||_, cond}
 use lib.Ieee.{Float, binary64, add, sub, lt, le}
-use Rattle.motion.specs.Float.{zero, isFinite, min, remEuclid}
+use Rattle.float.specs.Float.{zero, isFinite, min, remEuclid}
 
 -- no circle: the circumference is not finite, or not above 0
 abbrev pub degenerate : Float → Bool

@@ -1,14 +1,11 @@
 -- Facts of the formulas over any circle, and over any float that each names. The function `facts` carries them.
 use mathlib.Core.Path.{_≡_}
 use mathlib.Core.Bool.{true, false}
-use lib.Ieee.{Float, inf, ofBits, binary64, add, sub, lt, le, isNan, fits}
-use Rattle.motion.specs.Float.{zero, epsilon, isFinite, totalBefore}
+use lib.Ieee.{Float, inf, ofBits, binary64, add, lt, le, isNan}
+use Rattle.float.specs.Float.{zero, isFinite}
+use Rattle.float.specs.Facts.{IsF64, EpsilonKeepsSide, TotalOrder}
 use Rattle.motion.specs.Cyclic.{degenerate, wrapPosition, forwardDistance}
 use Rattle.motion.specs.Movement.{headwayClampTarget}
-
--- an f64: the logic's Float serves other formats too
-abbrev pub IsF64 : Float → Type 0
-IsF64 x = fits binary64 x ≡ true
 
 -- a circle: an f64 above 0 and finite
 abbrev pub IsCircle : Float → Type 0
@@ -46,16 +43,6 @@ HeadwayOnLargeCircle =
     (ofBits binary64 0x7fb0_0000_0000_0000)
     (ofBits binary64 0x7fe8_0000_0000_0000)
     ≡ inf false
-
--- fl(x - 1e-9) ≤ x and x ≤ fl(x + 1e-9), for every f64 that is a number
-unfoldable pub EpsilonKeepsSide : Type 0
-EpsilonKeepsSide = (x : Float) → IsF64 x → isNan x ≡ false → (le (sub binary64 x epsilon) x ≡ true) × (le x (add binary64 x epsilon) ≡ true)
-
--- total_cmp is a strict total order of the f64s: no x is before itself, "before" is transitive, and of two different f64s one is before the other
-unfoldable pub TotalOrder : Type 0
-TotalOrder = ((x : Float) → totalBefore x x ≡ false)
-    × ((x y z : Float) → totalBefore x y ≡ true → totalBefore y z ≡ true → totalBefore x z ≡ true)
-    × ((x y : Float) → IsF64 x → IsF64 y → totalBefore x y ≡ false → totalBefore y x ≡ false → x ≡ y)
 
 -- all of them
 pub record Facts : Type 0 where

@@ -1,4 +1,3 @@
-pub mod Float
 pub mod Cyclic
 pub mod Movement
 pub mod Facts

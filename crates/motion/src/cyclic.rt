@@ -1,9 +1,9 @@
 // components/cyclic.rs: positions and distances on a closed loop.
 ghost use mathlib.Core.Path.{_≡_};
 ghost use Rattle.motion.specs.Cyclic as Cyclic;
-use crate::float::is_finite;
-use crate::float::min;
-use crate::float::rem_euclid;
+use float::is_finite;
+use float::min;
+use float::rem_euclid;
 
 // A position brought into [0, circumference); unchanged where there is no circle or the position is not finite.
 #[no_mangle]

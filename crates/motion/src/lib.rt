@@ -1,6 +1,4 @@
-// The motion formulas of elevator-core on f64, bit for bit: fp.rs, components/cyclic.rs and movement.rs.
-pub mod float; // f64's methods, as the pages of Rust's standard library have them
-pub mod fp; // fp.rs
+// The motion formulas of elevator-core on f64, bit for bit: components/cyclic.rs and movement.rs.
 pub mod cyclic; // components/cyclic.rs
-pub mod movement; // movement.rs, and the velocity ramp of systems/movement.rs
+pub mod movement; // movement.rs
 pub mod facts; // claims about the definitions

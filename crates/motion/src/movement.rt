@@ -3,12 +3,12 @@ ghost use mathlib.Core.Path.{_≡_};
 ghost use Rattle.motion.specs.Movement as Movement;
 use crate::cyclic::forward_distance;
 use crate::cyclic::wrap_position;
-use crate::float::abs;
-use crate::float::clamp;
-use crate::float::is_finite;
-use crate::float::max;
-use crate::float::signum;
-use crate::fp::fma;
+use float::abs;
+use float::is_finite;
+use float::max;
+use float::signum;
+use velocity::fp::fma;
+use velocity::new_velocity;
 
 const EPSILON: f64 = 1e-9;
 
@@ -30,56 +30,6 @@ pub struct MovementResult {
     pub position: f64,
     pub velocity: f64,
     pub arrived: bool,
-}
-
-// The arm of tick_movement that slows down; 0 where the sign would flip.
-fn decelerated(velocity: f64, safe_decel: f64, dt: f64) -> f64
-    ensures { λ r. ⌜ r ≡ Movement.decelerated velocity «safe_decel» dt ⌝ }
-{
-    let v = fma(-safe_decel * dt, signum(velocity), velocity);
-    if (velocity > 0.0) & (v < 0.0) | (velocity < 0.0) & (v > 0.0) {
-        0.0
-    } else {
-        v
-    }
-}
-
-// The arm of tick_movement that speeds up, to max_speed at most.
-fn accelerated(velocity: f64, sign: f64, max_speed: f64, acceleration: f64, dt: f64) -> f64
-    ensures { λ r. ⌜ r ≡ Movement.accelerated velocity sign «max_speed» acceleration dt ⌝ }
-{
-    let v = fma(acceleration * dt, sign, velocity);
-    if abs(v) > max_speed {
-        sign * max_speed
-    } else {
-        v
-    }
-}
-
-// tick_movement's new_velocity, its `sign` and `displacement` given.
-fn new_velocity(
-    displacement: f64,
-    sign: f64,
-    velocity: f64,
-    max_speed: f64,
-    acceleration: f64,
-    deceleration: f64,
-    dt: f64,
-) -> f64
-    ensures { λ r. ⌜ r ≡ Movement.newVelocity displacement sign velocity «max_speed» acceleration deceleration dt ⌝ }
-{
-    let distance_remaining = abs(displacement);
-    let speed = abs(velocity);
-    let safe_decel = max(deceleration, EPSILON);
-    let stopping_distance = speed * speed / (2.0 * safe_decel);
-    let opposing = velocity * sign < 0.0;
-    if opposing | (stopping_distance >= distance_remaining - EPSILON) {
-        decelerated(velocity, safe_decel, dt)
-    } else if speed < max_speed {
-        accelerated(velocity, sign, max_speed, acceleration, dt)
-    } else {
-        sign * max_speed
-    }
 }
 
 // One tick towards a target on a line.
@@ -201,29 +151,5 @@ pub extern "C" fn headway_clamp_target(
         intended
     } else {
         wrap_position(trailer + safe_advance, circumference)
-    }
-}
-
-// tick_manual's new_vel: the velocity goes towards the manual speed `target`, by rate * dt at most.
-pub fn manual_velocity(
-    target: f64,
-    vel: f64,
-    max_speed: f64,
-    accel: f64,
-    decel: f64,
-    dt: f64,
-) -> f64
-    ensures { λ r. ⌜ r ≡ Movement.manualVelocity target vel «max_speed» accel decel dt ⌝ }
-{
-    let target = clamp(target, -max_speed, max_speed);
-    let slowing = (abs(target) < abs(vel)) | (signum(target) * signum(vel) < 0.0);
-    let rate = if slowing { decel } else { accel };
-    let dv_max = rate * dt;
-    if abs(target - vel) <= dv_max {
-        target
-    } else if target > vel {
-        vel + dv_max
-    } else {
-        vel - dv_max
     }
 }

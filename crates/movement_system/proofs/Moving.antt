@@ -10,25 +10,26 @@ use lib.ListN.{set}
 use lib.Seq.{set-getD}
 use lib.Ieee.{Float}
 use Rattle.motion.specs.declared.movement.MovementResult.{MovementResult}
-use Rattle.motion.proofs.Cases.{yes, no}
+use Rattle.float.proofs.Cases.{yes, no}
 use Rattle.world.specs.World.{carAt, lineAt, noCar}
 use Rattle.world.specs.declared.World.{World}
 use Rattle.world.specs.declared.Car.{Car}
 use Rattle.world.specs.declared.Line.{Line}
 use Rattle.world.specs.declared.LineKind.{LineKind}
 use Rattle.world.specs.declared.LineKind.the-variants.{Linear, Loop}
-use Rattle.lookup.specs.declared.leader.LeaderOption.{LeaderOption}
+use Rattle.leader.specs.declared.LeaderOption.{LeaderOption}
 use Rattle.log.specs.Log.{Wrote}
 use Rattle.log.proofs.Writing.{also, wrote-none}
 use Rattle.steps.specs.Steps.{plus, Step, lineOf, lampsOf, placed, stepped, notOpened, runTo}
 use Rattle.steps.specs.declared.Lamps.{Lamps}
 use Rattle.trips.specs.Trips.{isTrip, isLoop, tripOf}
-use Rattle.trips.specs.Landing.{leaderOf, landing}
-use Rattle.trips.specs.Arrival.{asksWork, workOf}
+use Rattle.landing.specs.Landing.{leaderOf, landing}
+use Rattle.arrival.specs.Arrival.{asksWork, workOf}
 use Rattle.trips.specs.declared.Trip.{Trip}
 use Rattle.trips.specs.declared.Trip.the-variants.{Rests, Drives, GoesTo, Repositions}
 use Rattle.movement_system.specs.Movement.{turnBy, moveOf}
-use Rattle.movement_system.specs.Parts.{come, wordsBy, movesBy, distanceBy, stepBy, Tells}
+use Rattle.movement_system.specs.Parts.{wordsBy, movesBy, stepBy, Tells}
+use Rattle.moves.specs.Moves.{come, distanceBy}
 use Rattle.movement_system.specs.declared.Emitted.{Emitted}
 use Rattle.movement_system.proofs.Parts.{result, own-lamps, work-lamps}
 

@@ -14,15 +14,15 @@ use Rattle.world.specs.declared.ElevatorPhase.the-variants.{Idle, DoorOpening}
 use Rattle.world.specs.declared.StopOption.{StopOption}
 use Rattle.world.specs.declared.StopOption.the-variants.{NoStop, Stop}
 use Rattle.world.specs.declared.TickOption.the-variants.{AtTick}
-use Rattle.lookup.specs.Sorted.{sortedStops}
+use Rattle.sorted.specs.Sorted.{sortedStops}
 use Rattle.log.specs.Words.{wordOf}
 use Rattle.log.specs.declared.Event.the-variants.{ElevatorArrived, ElevatorRepositioned, ElevatorIdle}
 use Rattle.steps.specs.Steps.{plus, lineOf, lampsOf, bothLit, updateIndicators, withMoved, withArrived, Step, Run, notOpened, runCars}
 use Rattle.steps.specs.declared.Lamps.{Lamps}
 use Rattle.trips.specs.Trips.{tripOf, travelled, distanceAfter}
 use Rattle.trips.specs.Spans.{spanOf, manualSpan, movingUp}
-use Rattle.trips.specs.Landing.{leaderOf, landing}
-use Rattle.trips.specs.Arrival.{popped, arrivalLamps, workOf}
+use Rattle.landing.specs.Landing.{leaderOf, landing}
+use Rattle.arrival.specs.Arrival.{popped, arrivalLamps, workOf}
 use Rattle.trips.specs.declared.span.Span.{Span}
 use Rattle.trips.specs.declared.Trip.{Trip}
 use Rattle.trips.specs.declared.Trip.the-variants.{Rests, Drives, GoesTo, Repositions}

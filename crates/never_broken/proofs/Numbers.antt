@@ -8,7 +8,7 @@ use lib.Dec.{leb, ltb, eqb}
 use lib.ListN.{getD, set}
 use lib.Seq.{getD-set-other}
 use borrow.Author.Tests.{eqb-true, eqb-false, leb-false, lt-leb}
-use Rattle.world.specs.Sound.{anyTo, unloaded, stopUnloaded, carUnloaded, phaseUnloaded, riderPhaseUnloaded, lineBroken, riderBroken}
+use Rattle.sound.specs.Sound.{anyTo, unloaded, stopUnloaded, carUnloaded, phaseUnloaded, riderPhaseUnloaded, lineBroken, riderBroken}
 use Rattle.world.specs.Calls.{called, pressed, cleared}
 use Rattle.world.specs.declared.Line.{Line}
 use Rattle.world.specs.declared.Rider.{Rider}
@@ -20,7 +20,7 @@ use Rattle.world.specs.declared.StopOption.{StopOption}
 use Rattle.world.specs.declared.StopOption.the-variants.{NoStop, Stop}
 use Rattle.world.specs.declared.CarOption.{CarOption}
 use Rattle.world.specs.declared.CarOption.the-variants.{NoCar, OfCar}
-use Rattle.world.proofs.Unbroken.{or-left, or-right}
+use Rattle.sound.proofs.Unbroken.{or-left, or-right}
 use Rattle.world.proofs.Bits.{bit-room}
 use Rattle.tick.proofs.Passed.{both, cases}
 

@@ -10,7 +10,7 @@ use lib.Pow.{pow-mono}
 use lib.Ieee.{Float}
 use borrow.Author.Tests.{eqb-true, ltb-true, leb-false, not-false, lt-leb}
 use Rattle.door.specs.declared.DoorCommand.{DoorCommand}
-use Rattle.world.specs.Sound.{anyTo, unloaded, phaseUnloaded, lineBroken, riderBroken, broken}
+use Rattle.sound.specs.Sound.{anyTo, unloaded, phaseUnloaded, lineBroken, riderBroken, broken}
 use Rattle.world.specs.World.{noLine, noRider, lineAt, carAt, riderAt, newCar}
 use Rattle.world.specs.With.{withCar}
 use Rattle.world.specs.Calls.{pressed}
@@ -26,8 +26,8 @@ use Rattle.world.specs.declared.ElevatorPhase.the-variants.{MovingToStop, Repos
 use Rattle.world.specs.declared.ServiceMode.{ServiceMode}
 use Rattle.world.specs.declared.SpeedOption.{SpeedOption}
 use Rattle.world.specs.declared.refusal.Refusal.{Refusal}
-use Rattle.motion.proofs.Cases.{and-left, and-right}
-use Rattle.world.proofs.Unbroken.{or-left, or-right}
+use Rattle.float.proofs.Cases.{and-left, and-right}
+use Rattle.sound.proofs.Unbroken.{or-left, or-right}
 use Rattle.tape.specs.Tape.{decoded}
 use Rattle.tape.specs.Facts.{InBounds, Facts}
 use Rattle.tape.proofs.Bounds.{in-bounds}
@@ -35,10 +35,13 @@ use Rattle.tape.specs.declared.Read.{Read}
 use Rattle.tape.specs.declared.Read.the-variants as Read
 use Rattle.tape.specs.declared.Record.{Record}
 use Rattle.tape.specs.declared.Record.the-variants as Record
-use Rattle.loads.specs.Loads as Loads
-use Rattle.loads.specs.Loads.{notNext, noSuchCar, countWith, lineRow, lineChecks, stopChecks, carChecks, riderChecks, startChecks, loadLine, loadStop, loadCar, loadRider, start}
-use Rattle.loads.specs.declared.Changed.{Changed}
-use Rattle.orders.specs.Orders.{sendChecks, orderChecks, commandChecks, callChecks, destinationChecks, sent, inMode, atSpeed, commanded, destined, marked, send, setMode, setManualSpeed, queueCommand, pressHallCall, pushDestination, setEnabled}
+use Rattle.changes.specs.Changes as Changes
+use Rattle.loads.specs.Loads.{countWith, lineRow, lineChecks, stopChecks, carChecks, riderChecks, loadLine, loadStop, loadCar, loadRider}
+use Rattle.changes.specs.Changes.{notNext, noSuchCar, startChecks, start}
+use Rattle.changes.specs.declared.Changed.{Changed}
+use Rattle.orders.specs.Orders.{sendChecks, sent, send}
+use Rattle.modes.specs.Modes.{orderChecks, inMode, atSpeed, marked, setMode, setManualSpeed, setEnabled}
+use Rattle.requests.specs.Requests.{commandChecks, callChecks, destinationChecks, commanded, destined, queueCommand, pressHallCall, pushDestination}
 use Rattle.record.specs.declared.Answer.{Answer}
 use Rattle.record.specs.declared.Answer.the-variants.{Accepted, Refused}
 use Rattle.record.specs.Record.{Outcome, refused, unless, changed, tickChecks, ticked, tickOnce, taken, readBy, recordOf}
@@ -103,7 +106,7 @@ module _ (w : World) (h : Sound w) (log : List ℕ) (used : ℕ) where
   abbrev Keeps : Changed → Type 0
   Keeps c = Good (changed log used c)
 
-  unless-keeps : (cs : List Check) (next : World) → positive cs ≡ true → (Passed cs → Sound next) → Keeps (Loads.unless cs w next)
+  unless-keeps : (cs : List Check) (next : World) → positive cs ≡ true → (Passed cs → Sound next) → Keeps (Changes.unless cs w next)
   unless-keeps [] next e f = record { world = f tt; answer = omega arith }
   unless-keeps (c ∷ cs) next e f =
       let n = ltb 0 (refusalNumber (c .refusal)) in

@@ -14,7 +14,7 @@ use Rattle.door.specs.declared.DoorCommand.{DoorCommand}
 use Rattle.door.specs.declared.DoorCommand.the-variants as Command
 use Rattle.door.specs.declared.DoorTransition.{DoorTransition}
 use Rattle.door.specs.declared.DoorTransition.the-variants.{None, FinishedOpening, FinishedOpen, FinishedClosing}
-use Rattle.world.specs.Sound.{anyTo, unloaded, stopUnloaded, phaseUnloaded, lineBroken}
+use Rattle.sound.specs.Sound.{anyTo, unloaded, stopUnloaded, phaseUnloaded, lineBroken}
 use Rattle.world.specs.World.{lineAt}
 use Rattle.world.specs.declared.Car.{Car}
 use Rattle.world.specs.declared.Line.{Line}
@@ -25,20 +25,21 @@ use Rattle.world.specs.declared.ElevatorPhase.{ElevatorPhase}
 use Rattle.world.specs.declared.ElevatorPhase.the-variants.{Idle, MovingToStop, Repositioning, DoorOpening, Loading, DoorClosing, Stopped}
 use Rattle.world.specs.declared.StopOption.{StopOption}
 use Rattle.world.specs.declared.StopOption.the-variants.{NoStop, Stop}
-use Rattle.lookup.specs.Stops.{loopNextStopForward, nextStopBy, loopNextStopForCar}
-use Rattle.lookup.proofs.Served.{next-is-served}
+use Rattle.next_stop.specs.NextStop.{loopNextStopForward, nextStopBy, loopNextStopForCar}
+use Rattle.next_stop.proofs.Served.{next-is-served}
 use Rattle.steps.specs.Steps.{lineOf, Step}
 use Rattle.steps.specs.declared.Lamps.{Lamps}
 use Rattle.steps.specs.declared.Queue.{Queue}
 use Rattle.trips.specs.Spans.{spanOf, manualSpan}
-use Rattle.trips.specs.Arrival.{shifted, popped, arrivalLamps}
+use Rattle.arrival.specs.Arrival.{shifted, popped, arrivalLamps}
 use Rattle.trips.specs.declared.Trip.{Trip}
 use Rattle.trips.specs.declared.Trip.the-variants.{Rests, Drives, GoesTo, Repositions}
 use Rattle.movement_system.specs.Movement.{passedOver, passOf, repositionedOf, arrivedOf, turnBy}
-use Rattle.doors_system.specs.Commands.{applyOpen, applyClose, applyHold, applyCancelHold, tryApplyCommand, worked, queued, triedOn, workTo, processDoorCommands}
-use Rattle.doors_system.specs.Doors.{Turn, rested, finishedClosing, finishBy, stays, doorBy, doorTurn}
-use Rattle.doors_system.specs.declared.commands.Tried.{Tried}
-use Rattle.doors_system.specs.declared.commands.Work.{Work}
+use Rattle.door_commands.specs.Commands.{applyOpen, applyClose, applyHold, applyCancelHold, tryApplyCommand, worked, queued, triedOn, workTo, processDoorCommands}
+use Rattle.doors_system.specs.Doors.{doorTurn}
+use Rattle.door_ticks.specs.Ticks.{Turn, rested, finishedClosing, finishBy, stays, doorBy}
+use Rattle.door_commands.specs.declared.Tried.{Tried}
+use Rattle.door_commands.specs.declared.Work.{Work}
 use Rattle.tick.proofs.Passed.{both}
 use Rattle.never_broken.proofs.Numbers.{still-loaded, stop-stays, phase-stays, listed}
 

@@ -6,7 +6,7 @@ use Prim.Native.Nat.{ℕ, zero, suc, _*_, _^_, _<_, _≤_, min}
 use native.Mathlib.Omega.{arith}
 use lib.ListN.{set}
 use lib.Ieee.{Float}
-use Rattle.world.specs.Sound.{lineBroken, riderBroken}
+use Rattle.sound.specs.Sound.{lineBroken, riderBroken}
 use Rattle.world.specs.World.{noCar, lineAt, carAt, riderAt}
 use Rattle.world.specs.declared.World.{World}
 use Rattle.world.specs.declared.Car.{Car}
@@ -15,15 +15,16 @@ use Rattle.world.specs.declared.LineKind.{LineKind}
 use Rattle.world.specs.declared.Rider.{Rider}
 use Rattle.world.specs.declared.StopOption.{StopOption}
 use Rattle.world.specs.declared.StopOption.the-variants.{NoStop, Stop}
-use Rattle.lookup.specs.Stops.{loopNextStopForCar}
+use Rattle.next_stop.specs.NextStop.{loopNextStopForCar}
 use Rattle.steps.specs.Steps.{lineOf, Step, stepped, runTo, runCars}
 use Rattle.steps.specs.declared.JustOpened.{JustOpened}
 use Rattle.trips.specs.Trips.{tripOf}
-use Rattle.trips.specs.Landing.{landing, leaderOf}
-use Rattle.trips.specs.Arrival.{workOf}
+use Rattle.landing.specs.Landing.{landing, leaderOf}
+use Rattle.arrival.specs.Arrival.{workOf}
 use Rattle.movement_system.specs.Movement.{moveOf, moved}
-use Rattle.doors_system.specs.Commands.{atStop, hasRiderTraversing}
-use Rattle.doors_system.specs.Doors.{doorOf, doored, Standing, standing, carsOf, clears, clearOne, clearMatching, clearTo, openedOf, doorsWorld}
+use Rattle.door_commands.specs.Commands.{atStop, hasRiderTraversing}
+use Rattle.doors_system.specs.Doors.{doorOf, doored, standing, carsOf, doorsWorld}
+use Rattle.hall_calls.specs.Clearing.{Standing, clears, clearOne, clearMatching, clearTo, openedOf}
 use Rattle.tick.specs.Tick.{tickWorld}
 use Rattle.tick.specs.Counters.{Counts, NothingWraps}
 use Rattle.tick.proofs.Passed.{both}

@@ -1,61 +1,16 @@
-// Kinds 5 to B: what cars are told, and hall calls.
+// Kind 5: a car is sent to a stop.
 ghost use mathlib.Core.Path.{_≡_};
-ghost use Rattle.world.specs.With.{withOrders};
 ghost use Rattle.orders.specs.Orders as Orders;
-use door::DoorCommand;
-use loads::Changed;
-use loads::accepted;
-use loads::refused;
+use changes::Changed;
+use changes::accepted;
+use changes::refused;
+use modes::with_orders;
+use sound::unloaded;
 use world::Car;
 use world::ElevatorPhase;
-use world::QueuedCommand;
-use world::ServiceMode;
-use world::SpeedOption;
 use world::StopOption;
 use world::World;
-use world::calls::pressed;
 use world::refusal::Refusal;
-use world::sound::unloaded;
-
-// A car with another phase, mode, repositioning flag, target and manual speed.
-fn with_orders(
-    car: Car,
-    phase: ElevatorPhase,
-    mode: ServiceMode,
-    repositioning: bool,
-    target: StopOption,
-    speed: SpeedOption,
-) -> Car
-    ensures { λ r. ⌜ r ≡ withOrders car phase mode (car .enabled) repositioning target speed (car .«destination_queue») (car .«destination_count») (car .«door_command_queue») (car .«command_count») ⌝ }
-{
-    let door = car.door;
-    let motion = car.motion;
-    let destinations = car.destination_queue;
-    let commands = car.door_command_queue;
-    let cooldown = car.cooldown;
-    Car {
-        line: car.line,
-        phase,
-        door,
-        service_mode: mode,
-        enabled: car.enabled,
-        motion,
-        door_transition_ticks: car.door_transition_ticks,
-        door_open_ticks: car.door_open_ticks,
-        going_up: car.going_up,
-        going_down: car.going_down,
-        going_forward: car.going_forward,
-        repositioning,
-        target_stop: target,
-        manual_target_velocity: speed,
-        destination_queue: destinations,
-        destination_count: car.destination_count,
-        door_command_queue: commands,
-        command_count: car.command_count,
-        move_count: car.move_count,
-        cooldown,
-    }
-}
 
 fn can_go(phase: ElevatorPhase) -> bool
     ensures { λ r. ⌜ r ≡ Orders.canGo phase ⌝ }
@@ -105,142 +60,5 @@ pub fn send(world: World, car: u8, stop: u8, reposition: bool) -> Changed
     }
     let mut next = world;
     next.cars[at] = sent(row, stop, reposition);
-    accepted(next)
-}
-
-// Kind 6.
-pub fn set_mode(world: World, car: u8, mode: ServiceMode) -> Changed
-    ensures { λ r. ⌜ r ≡ Orders.setMode world car mode ⌝ }
-{
-    if !world.started {
-        return refused(world, Refusal::NotNow);
-    }
-    let at = car as usize;
-    if 16 <= at {
-        return refused(world, Refusal::NotLoaded);
-    }
-    if unloaded(world.car_count, car) {
-        return refused(world, Refusal::NotLoaded);
-    }
-    let row = world.cars[at];
-    let phase = row.phase;
-    let target = row.target_stop;
-    let speed = row.manual_target_velocity;
-    let mut next = world;
-    next.cars[at] = with_orders(row, phase, mode, row.repositioning, target, speed);
-    accepted(next)
-}
-
-// Kind 7.
-pub fn set_manual_speed(world: World, car: u8, speed: SpeedOption) -> Changed
-    ensures { λ r. ⌜ r ≡ Orders.setManualSpeed world car speed ⌝ }
-{
-    if !world.started {
-        return refused(world, Refusal::NotNow);
-    }
-    let at = car as usize;
-    if 16 <= at {
-        return refused(world, Refusal::NotLoaded);
-    }
-    if unloaded(world.car_count, car) {
-        return refused(world, Refusal::NotLoaded);
-    }
-    let row = world.cars[at];
-    let phase = row.phase;
-    let mode = row.service_mode;
-    let target = row.target_stop;
-    let mut next = world;
-    next.cars[at] = with_orders(row, phase, mode, row.repositioning, target, speed);
-    accepted(next)
-}
-
-// Kind 8.
-pub fn queue_command(world: World, car: u8, command: DoorCommand) -> Changed
-    ensures { λ r. ⌜ r ≡ Orders.queueCommand world car command ⌝ }
-{
-    if !world.started {
-        return refused(world, Refusal::NotNow);
-    }
-    let at = car as usize;
-    if 16 <= at {
-        return refused(world, Refusal::NotLoaded);
-    }
-    if unloaded(world.car_count, car) {
-        return refused(world, Refusal::NotLoaded);
-    }
-    let mut row = world.cars[at];
-    let commands = row.command_count;
-    if 8 <= commands {
-        return refused(world, Refusal::QueueFull);
-    }
-    let queued = QueuedCommand { command };
-    row.door_command_queue[commands] = queued;
-    row.command_count = commands + 1;
-    let mut next = world;
-    next.cars[at] = row;
-    accepted(next)
-}
-
-// Kind 9.
-pub fn press_hall_call(world: World, stop: u8, down: bool) -> Changed
-    ensures { λ r. ⌜ r ≡ Orders.pressHallCall world stop down ⌝ }
-{
-    if !world.started {
-        return refused(world, Refusal::NotNow);
-    }
-    if unloaded(world.stop_count, stop) {
-        return refused(world, Refusal::NotLoaded);
-    }
-    let mut next = world;
-    if down {
-        next.down_calls = pressed(world.down_calls, stop);
-        return accepted(next);
-    }
-    next.up_calls = pressed(world.up_calls, stop);
-    accepted(next)
-}
-
-// Kind A.
-pub fn push_destination(world: World, car: u8, stop: u8) -> Changed
-    ensures { λ r. ⌜ r ≡ Orders.pushDestination world car stop ⌝ }
-{
-    if !world.started {
-        return refused(world, Refusal::NotNow);
-    }
-    let at = car as usize;
-    if 16 <= at {
-        return refused(world, Refusal::NotLoaded);
-    }
-    if unloaded(world.car_count, car) | unloaded(world.stop_count, stop) {
-        return refused(world, Refusal::NotLoaded);
-    }
-    let mut row = world.cars[at];
-    let destinations = row.destination_count;
-    if 8 <= destinations {
-        return refused(world, Refusal::QueueFull);
-    }
-    row.destination_queue[destinations] = stop;
-    row.destination_count = destinations + 1;
-    let mut next = world;
-    next.cars[at] = row;
-    accepted(next)
-}
-
-// Kind B.
-pub fn set_enabled(world: World, car: u8, enabled: bool) -> Changed
-    ensures { λ r. ⌜ r ≡ Orders.setEnabled world car enabled ⌝ }
-{
-    if !world.started {
-        return refused(world, Refusal::NotNow);
-    }
-    let at = car as usize;
-    if 16 <= at {
-        return refused(world, Refusal::NotLoaded);
-    }
-    if unloaded(world.car_count, car) {
-        return refused(world, Refusal::NotLoaded);
-    }
-    let mut next = world;
-    next.cars[at].enabled = enabled;
     accepted(next)
 }

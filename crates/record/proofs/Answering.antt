@@ -12,13 +12,14 @@ use lib.Ieee.{Float}
 use borrow.Author.Tests.{ltb-false, eqb-false}
 use Rattle.world.specs.World.{carAt, newCar}
 use Rattle.world.specs.With.{withCar, withCars}
-use Rattle.world.specs.Sound.{broken}
+use Rattle.sound.specs.Sound.{broken}
 use Rattle.world.specs.Refusal.{Check, check}
 use Rattle.world.specs.declared.World.{World}
 use Rattle.world.specs.declared.refusal.Refusal.{Refusal}
 use Rattle.world.specs.declared.refusal.Refusal.the-variants.{BrokenWorld, CutShort, NotNow, LastTick, LogShort}
 use Rattle.tape.specs.Tape as Tape
-use Rattle.tape.specs.Tape.{Kind, kinds, kindIn, kindOf, headOf, decoded}
+use Rattle.tape.specs.Tape.{Kind, kinds, kindIn, decoded}
+use Rattle.fields.specs.Fields.{kindOf, headOf}
 use Rattle.tape.specs.Facts.{Facts, InBounds}
 use Rattle.tape.specs.declared.Decoded.{Decoded}
 use Rattle.tape.specs.declared.Read.{Read}
@@ -26,10 +27,13 @@ use Rattle.tape.specs.declared.Read.the-variants as Read
 use Rattle.tape.specs.declared.Record.{Record}
 use Rattle.tape.specs.declared.Record.the-variants.{Line, Stop, Car, Rider, Send, Mode, ManualSpeed, DoorCommand, HallCall, Destination, Enable, Tick, Start}
 use Rattle.tape.proofs.Bounds.{in-bounds}
-use Rattle.loads.specs.Loads as Loads
-use Rattle.loads.specs.Loads.{lineRow, lineChecks, withLine, loadLine, stopChecks, withStop, loadStop, carChecks, loadCar, riderChecks, withRider, loadRider, startChecks, withStart, start}
-use Rattle.loads.specs.declared.Changed.{Changed}
-use Rattle.orders.specs.Orders.{sendChecks, sent, send, orderChecks, inMode, setMode, atSpeed, setManualSpeed, commandChecks, commanded, queueCommand, callChecks, withCall, pressHallCall, destinationChecks, destined, pushDestination, marked, setEnabled}
+use Rattle.changes.specs.Changes as Changes
+use Rattle.loads.specs.Loads.{lineRow, lineChecks, withLine, loadLine, stopChecks, withStop, loadStop, carChecks, loadCar, riderChecks, withRider, loadRider}
+use Rattle.changes.specs.Changes.{startChecks, withStart, start}
+use Rattle.changes.specs.declared.Changed.{Changed}
+use Rattle.orders.specs.Orders.{sendChecks, sent, send}
+use Rattle.modes.specs.Modes.{orderChecks, inMode, setMode, atSpeed, setManualSpeed, marked, setEnabled}
+use Rattle.requests.specs.Requests.{commandChecks, commanded, queueCommand, callChecks, withCall, pressHallCall, destinationChecks, destined, pushDestination}
 use Rattle.log.proofs.Writing.{sets-after}
 use Rattle.tick.specs.Tick.{tickWords}
 use Rattle.tick.specs.Room.{roomOf, WordsFit}
@@ -95,15 +99,15 @@ module _ (w : World) (words lent : List ℕ) where
   fine-check false r cs o h = record { answers = inr (refl, h refl .answers); kept = h refl .kept }
 
   changed-check : (used : ℕ) (b : Bool) (r : Refusal) (cs : List Check) (c : Changed) →
-      Fine cs (Takes used) (changed lent used c) → Fine (check r b ∷ cs) (Takes used) (changed lent used (cond b (Loads.refused w r) c))
+      Fine cs (Takes used) (changed lent used c) → Fine (check r b ∷ cs) (Takes used) (changed lent used (cond b (Changes.refused w r) c))
   unfolding Answers
   changed-check used true r cs c h = record { answers = inl (refl, refl); kept = λ g. refused-kept r }
   changed-check used false r cs c h = record { answers = inr (refl, h .answers); kept = h .kept }
 
-  fine-changed : (used : ℕ) (cs : List Check) (next : World) → Fine cs (Takes used) (changed lent used (Loads.unless cs w next))
+  fine-changed : (used : ℕ) (cs : List Check) (next : World) → Fine cs (Takes used) (changed lent used (Changes.unless cs w next))
   unfolding Answers
   fine-changed used [] next = record { answers = refl; kept = accepted-kept used next }
-  fine-changed used (c ∷ cs) next = changed-check used (c .holds) (c .refusal) cs (Loads.unless cs w next) (fine-changed used cs next)
+  fine-changed used (c ∷ cs) next = changed-check used (c .holds) (c .refusal) cs (Changes.unless cs w next) (fine-changed used cs next)
 
   -- ---- what was read
 

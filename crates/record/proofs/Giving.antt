@@ -8,15 +8,15 @@ use Prim.Native.Nat.{ℕ, _+_, _*_, _^_, _≤_, _<_}
 use lib.ListN.{length}
 use lib.Ieee.{Float}
 use borrow.Author.Tests.{lt-ltb, le-ltb, le-leb, lt-leb}
-use Rattle.world.specs.Sound.{broken, countsBroken}
+use Rattle.sound.specs.Sound.{broken, countsBroken}
 use Rattle.world.specs.declared.World.{World}
-use Rattle.world.proofs.Unbroken.{counts-fit}
+use Rattle.sound.proofs.Unbroken.{counts-fit}
 use Rattle.world.specs.declared.refusal.Refusal.{Refusal}
 use Rattle.world.specs.declared.refusal.Refusal.the-variants.{BrokenWorld, NotNow, LastTick, LogShort}
 use Rattle.tape.specs.Tape.{decoded}
 use Rattle.tape.specs.declared.Read.the-variants as Read
 use Rattle.tape.specs.declared.Record.{Record}
-use Rattle.loads.specs.declared.Changed.{Changed}
+use Rattle.changes.specs.declared.Changed.{Changed}
 use Rattle.log.specs.Log.{Wrote}
 use Rattle.tick.specs.Tick.{tickWorld, tickWords}
 use Rattle.tick.specs.Room.{roomOf, WordsFit}

@@ -6,19 +6,23 @@ use mathlib.Core.List.{List, [], _∷_, _++_}
 use Prim.Native.Nat.{ℕ, _<_, _≤_}
 use lib.Dec.{eqb}
 use lib.ListN.{length, getD}
-use Rattle.world.specs.Sound.{broken}
+use Rattle.sound.specs.Sound.{broken}
 use Rattle.world.specs.Refusal.{Check, check}
 use Rattle.world.specs.declared.World.{World}
 use Rattle.world.specs.declared.refusal.Refusal.{Refusal}
 use Rattle.world.specs.declared.refusal.Refusal.the-variants.{BrokenWorld, CutShort, UnknownKind}
-use Rattle.tape.specs.Tape.{Kind, kinds, kindOf, headOf}
+use Rattle.tape.specs.Tape.{Kind, kinds}
+use Rattle.fields.specs.Fields.{kindOf, headOf}
 use Rattle.tape.specs.declared.Decoded.{Decoded}
 use Rattle.tape.specs.declared.Read.{Read}
 use Rattle.tape.specs.declared.Read.the-variants as Read
 use Rattle.tape.specs.declared.Record.{Record}
 use Rattle.tape.specs.declared.Record.the-variants.{Line, Stop, Car, Rider, Send, Mode, ManualSpeed, DoorCommand, HallCall, Destination, Enable, Tick, Start}
-use Rattle.loads.specs.Loads.{lineRow, lineChecks, stopChecks, carChecks, riderChecks, startChecks}
-use Rattle.orders.specs.Orders.{sendChecks, orderChecks, commandChecks, callChecks, destinationChecks}
+use Rattle.loads.specs.Loads.{lineRow, lineChecks, stopChecks, carChecks, riderChecks}
+use Rattle.changes.specs.Changes.{startChecks}
+use Rattle.orders.specs.Orders.{sendChecks}
+use Rattle.modes.specs.Modes.{orderChecks}
+use Rattle.requests.specs.Requests.{commandChecks, callChecks, destinationChecks}
 use Rattle.record.specs.declared.Answer.{Answer}
 use Rattle.record.specs.declared.Answer.the-variants.{Accepted, Refused}
 use Rattle.record.specs.Record.{Outcome, isAccepted, usedOf, writtenOf, tickChecks, recordOf}

@@ -7,7 +7,7 @@ use lib.Dec.{leb, ltb}
 use lib.ListN.{length}
 use lib.Seq.{sets}
 use lib.Ieee.{Float}
-use Rattle.world.specs.Sound.{broken}
+use Rattle.sound.specs.Sound.{broken}
 use Rattle.world.specs.Refusal.{Check, check}
 use Rattle.world.specs.declared.World.{World}
 use Rattle.world.specs.declared.refusal.Refusal.{Refusal}
@@ -17,11 +17,14 @@ use Rattle.tape.specs.declared.Read.{Read}
 use Rattle.tape.specs.declared.Read.the-variants as Read
 use Rattle.tape.specs.declared.Record.{Record}
 use Rattle.tape.specs.declared.Record.the-variants.{Line, Stop, Car, Rider, Send, Mode, ManualSpeed, DoorCommand, HallCall, Destination, Enable, Tick, Start}
-use Rattle.loads.specs.Loads.{loadLine, loadStop, loadCar, loadRider, start}
-use Rattle.loads.specs.declared.Changed.{Changed}
-use Rattle.loads.specs.declared.Taken.{Taken}
-use Rattle.loads.specs.declared.Taken.the-variants as Taken
-use Rattle.orders.specs.Orders.{send, setMode, setManualSpeed, queueCommand, pressHallCall, pushDestination, setEnabled}
+use Rattle.loads.specs.Loads.{loadLine, loadStop, loadCar, loadRider}
+use Rattle.changes.specs.Changes.{start}
+use Rattle.changes.specs.declared.Changed.{Changed}
+use Rattle.changes.specs.declared.Taken.{Taken}
+use Rattle.changes.specs.declared.Taken.the-variants as Taken
+use Rattle.orders.specs.Orders.{send}
+use Rattle.modes.specs.Modes.{setMode, setManualSpeed, setEnabled}
+use Rattle.requests.specs.Requests.{queueCommand, pressHallCall, pushDestination}
 use Rattle.tick.specs.Tick.{tickWorld, tickWords}
 use Rattle.tick.specs.Room.{roomOf}
 use Rattle.record.specs.declared.Recorded.{Recorded}

@@ -4,15 +4,15 @@ ghost use mathlib.Core.Bool.{true};
 ghost use Rattle.record.specs.Record as Call;
 ghost use Rattle.record.specs.Conditions.{FirstCondition, OnItsCondition};
 ghost use Rattle.record.specs.Parts.{Orders, Changes, Few};
-use loads::Changed;
-use loads::Taken;
+use changes::Changed;
+use changes::Taken;
+use sound::broken;
 use tape::Read;
 use tape::Record;
 use tape::decode;
 use tick::tick;
 use world::World;
 use world::refusal::Refusal;
-use world::sound::broken;
 
 // An accepted record with the words used and the log words written, or one refusal.
 pub enum Answer {
@@ -36,13 +36,13 @@ fn order(world: World, read: Record) -> Changed
             stop,
             reposition,
         } => orders::send(world, car, stop, reposition),
-        Record::Mode { car, mode } => orders::set_mode(world, car, mode),
-        Record::ManualSpeed { car, speed } => orders::set_manual_speed(world, car, speed),
-        Record::DoorCommand { car, command } => orders::queue_command(world, car, command),
-        Record::HallCall { stop, down } => orders::press_hall_call(world, stop, down),
-        Record::Destination { car, stop } => orders::push_destination(world, car, stop),
-        Record::Enable { car, enabled } => orders::set_enabled(world, car, enabled),
-        _ => loads::accepted(world), // no order
+        Record::Mode { car, mode } => modes::set_mode(world, car, mode),
+        Record::ManualSpeed { car, speed } => modes::set_manual_speed(world, car, speed),
+        Record::DoorCommand { car, command } => requests::queue_command(world, car, command),
+        Record::HallCall { stop, down } => requests::press_hall_call(world, stop, down),
+        Record::Destination { car, stop } => requests::push_destination(world, car, stop),
+        Record::Enable { car, enabled } => modes::set_enabled(world, car, enabled),
+        _ => changes::accepted(world), // no order
     }
 }
 
@@ -73,7 +73,7 @@ fn change(world: World, read: Record, serves: [u8; 64]) -> Changed
             door_open_ticks,
         ),
         Record::Rider { number, rider } => loads::load_rider(world, number, rider),
-        Record::Start => loads::start(world),
+        Record::Start => changes::start(world),
         _ => order(world, read),
     }
 }

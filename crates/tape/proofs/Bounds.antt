@@ -10,10 +10,11 @@ use borrow.Author.Tests.{ltb-false, leb-true, eqb-true, eqb-false}
 use Rattle.world.specs.Refusal.{Check, check, refusalNumber}
 use Rattle.world.specs.declared.refusal.Refusal.{Refusal}
 use Rattle.world.specs.declared.refusal.Refusal.the-variants.{CutShort, UnknownKind}
-use Rattle.motion.proofs.Cases.{and-left, and-right}
-use Rattle.tape.specs.declared.head.Head.{Head}
+use Rattle.float.proofs.Cases.{and-left, and-right}
+use Rattle.fields.specs.declared.head.Head.{Head}
 use Rattle.tape.specs.declared.Decoded.{Decoded}
-use Rattle.tape.specs.Tape.{Deed, Kind, kindIn, kinds, refused, unless, answer, kindOf, headOf, servesCount, lineRecord, stopRecord, carRecord, riderRecord, sendRecord, modeRecord, manualSpeedRecord, doorCommandRecord, hallCallRecord, destinationRecord, enableRecord, tickRecord, startRecord, recordOf, decoded}
+use Rattle.tape.specs.Tape.{Deed, Kind, kindIn, kinds, refused, unless, answer, servesCount, lineRecord, stopRecord, carRecord, riderRecord, sendRecord, modeRecord, manualSpeedRecord, doorCommandRecord, hallCallRecord, destinationRecord, enableRecord, tickRecord, startRecord, recordOf, decoded}
+use Rattle.fields.specs.Fields.{kindOf, headOf}
 use Rattle.tape.specs.Facts.{InBounds, Facts}
 
 -- every refusal of the checks is 1 to 4

@@ -1,3 +1,2 @@
-pub mod Floats
 pub mod Serves
 pub mod Bounds

@@ -8,7 +8,8 @@ use Rattle.tape.specs.declared.Read.{Read}
 use Rattle.tape.specs.declared.Read.the-variants.{Refused, Accepted}
 use Rattle.tape.specs.declared.Record.{Record}
 use Rattle.tape.specs.declared.Record.the-variants.{Line, Stop, Car, Rider, Send, Mode, ManualSpeed, DoorCommand, HallCall, Destination, Enable, Tick, Start}
-use Rattle.tape.specs.Tape.{kindOf, decoded}
+use Rattle.tape.specs.Tape.{decoded}
+use Rattle.fields.specs.Fields.{kindOf}
 
 -- the kind of a record
 abbrev pub kindNumber : Record → ℕ

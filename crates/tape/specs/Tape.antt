@@ -1,11 +1,11 @@
 -- What a tape (the input record stream) begins with: for each kind its checks in the paper's order, its values and its length.
 use mathlib.Core.Bool.{Bool, false, not, _&&_, _||_, cond}
 use mathlib.Core.List.{List, [], _∷_}
-use Prim.Native.Nat.{ℕ, zero, suc, _+_, _*_, _/_, _%_, _^_}
+use Prim.Native.Nat.{ℕ, zero, suc, _+_, _/_, _%_, _^_}
 use lib.Dec.{ltb, eqb}
 use lib.ListN.{length, getD, set, replicate}
 use lib.Ieee.{Float, binary64, lt, le, ofBits}
-use Rattle.motion.specs.Float as F64
+use Rattle.float.specs.Float as F64
 use Rattle.door.specs.declared.DoorCommand.{DoorCommand}
 use Rattle.door.specs.declared.DoorCommand.the-variants as Command
 use Rattle.world.specs.Refusal.{Check, check}
@@ -24,39 +24,14 @@ use Rattle.world.specs.declared.SpeedOption.{SpeedOption}
 use Rattle.world.specs.declared.SpeedOption.the-variants.{NoSpeed, Speed}
 use Rattle.world.specs.declared.RiderPhase.{RiderPhase}
 use Rattle.world.specs.declared.RiderPhase.the-variants.{Waiting, Boarding, Riding, Exiting, Walking, Arrived, Abandoned, Resident}
-use Rattle.tape.specs.declared.head.Head.{Head}
+use Rattle.fields.specs.declared.head.Head.{Head}
 use Rattle.tape.specs.declared.loads.RiderBody.{RiderBody}
 use Rattle.tape.specs.declared.Record.{Record}
 use Rattle.tape.specs.declared.Record.the-variants as Record
 use Rattle.tape.specs.declared.Read.{Read}
 use Rattle.tape.specs.declared.Read.the-variants.{Refused, Accepted}
 use Rattle.tape.specs.declared.Decoded.{Decoded}
-
--- ---- fields
-
--- "bits 31-28 kind, 27-24 n, 23-16 s, 15-0 v"
-abbrev pub kindOf : ℕ → ℕ
-kindOf h = h / 2 ^ 28
-
-abbrev pub nOf : ℕ → ℕ
-nOf h = h / 2 ^ 24 % 16
-
-abbrev pub sOf : ℕ → ℕ
-sOf h = h / 2 ^ 16 % 256
-
-abbrev pub vOf : ℕ → ℕ
-vOf h = h % 2 ^ 16
-
-abbrev pub headOf : ℕ → Head
-headOf h = record { kind = kindOf h; n = nOf h; s = sOf h; v = vOf h }
-
--- "A float is two words, high half first"
-unfoldable pub floatAt : List ℕ → ℕ → Float
-floatAt ws k = ofBits binary64 (getD ws k 0 * 2 ^ 32 + getD ws (k + 1) 0)
-
--- "raw zero words": no bit is set in a float's two words
-unfoldable pub rawZeroAt : List ℕ → ℕ → Bool
-rawZeroAt ws k = eqb (getD ws k 0) 0 && eqb (getD ws (k + 1) 0) 0
+use Rattle.fields.specs.Fields.{headOf, floatAt, rawZeroAt, outsideSize, outsideFromZero, outsideAboveZero}
 
 -- ---- numbers: "Stops 0 to 63, cars 0 to 15, riders 0 to 127", lines 0 to 7; "Fields not named are 0"
 
@@ -75,7 +50,7 @@ notRider r = ltb 127 r
 abbrev pub nonzero : ℕ → Bool
 nonzero x = not (eqb x 0)
 
--- ---- ranges: "a float not finite or outside its range". Negative zero is level with zero in `lt` and `le`.
+-- ---- ranges: "a float not finite or outside its range"
 
 abbrev pub million : Float
 million = ofBits binary64 0x412e_8480_0000_0000
@@ -85,18 +60,6 @@ thousand = ofBits binary64 0x408f_4000_0000_0000
 
 abbrev pub ten : Float
 ten = ofBits binary64 0x4024_0000_0000_0000
-
--- "at most .. in size"
-abbrev pub outsideSize : Float → Float → Bool
-outsideSize x most = not (F64.isFinite x) || lt most (F64.abs x)
-
--- "0 to .."
-abbrev pub outsideFromZero : Float → Float → Bool
-outsideFromZero x most = not (F64.isFinite x) || lt x F64.zero || lt most x
-
--- "above 0 to .."
-abbrev pub outsideAboveZero : Float → Float → Bool
-outsideAboveZero x most = not (F64.isFinite x) || le x F64.zero || lt most x
 
 -- ---- checks: "Checked in the order of the numbers"; "on its condition and on no other"
 

@@ -1,6 +1,4 @@
 // Reads a tape (the input record stream): a record's fields, its length, and refusals 1 to 4. Nothing past the words given is read.
-mod head; // the fields of a head word
-mod body; // words and floats of a body, and their ranges
 mod loads; // kinds 1 to 4: line, stop, car, rider
 mod orders; // kinds 5 to D: what cars, calls and the clock are told
 pub mod facts; // claims about the definitions
@@ -10,7 +8,7 @@ ghost use mathlib.Core.List.{[], _∷_};
 ghost use Rattle.tape.specs.Tape.{unless, accepted, refused, decoded};
 ghost use Rattle.world.specs.Refusal.{check};
 use door::DoorCommand;
-use head::head_of;
+use fields::head::head_of;
 use world::LineKind;
 use world::Motion;
 use world::Rider;

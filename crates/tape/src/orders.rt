@@ -3,13 +3,13 @@ ghost use mathlib.Core.Path.{_≡_};
 ghost use Rattle.tape.specs.Tape.{answer, sendRecord, modeOf, modeRecord, speedOf, manualSpeedRecord, commandOf, doorCommandRecord, hallCallRecord, destinationRecord, enableRecord, tickRecord, startRecord};
 use crate::Decoded;
 use crate::Record;
-use crate::body::float_at;
-use crate::body::outside_above_zero;
-use crate::body::outside_size;
-use crate::body::raw_zero_at;
 use crate::checked;
-use crate::head::Head;
 use door::DoorCommand;
+use fields::body::float_at;
+use fields::body::outside_above_zero;
+use fields::body::outside_size;
+use fields::body::raw_zero_at;
+use fields::head::Head;
 use world::ServiceMode;
 use world::SpeedOption;
 

@@ -10,12 +10,12 @@ use lib.Ieee.{Float, nan, inf, fin, binary64, up, down, round, sum, add, sub, ne
 use lib.Ieee.Fits.{down-pos}
 use lib.Ieee.Order.{round-mono}
 use borrow.Author.Tests.{ltb-true, ltb-false, eq-eqb, lt-ltb}
-use Rattle.motion.specs.Float.{epsilon}
-use Rattle.motion.proofs.Cases.{no, yes}
-use Rattle.motion.proofs.Rounding.{Plus, plus-round, neg-round, le-nat}
-use Rattle.motion.proofs.Sides.{truly, flip, astride}
-use Rattle.lookup.specs.Sorted.{positionBefore}
-use Rattle.lookup.proofs.Order.{not-both}
+use Rattle.float.specs.Float.{epsilon}
+use Rattle.float.proofs.Cases.{no, yes}
+use Rattle.float.proofs.Rounding.{Plus, plus-round, neg-round, le-nat}
+use Rattle.float.proofs.Sides.{truly, flip, astride}
+use Rattle.sorted.specs.Sorted.{positionBefore}
+use Rattle.sorted.proofs.Order.{not-both}
 use Rattle.movement_system.proofs.Thresholds.{le-through}
 
 -- ---- two floats with no sign

@@ -6,14 +6,14 @@ use Prim.Native.Nat.{ℕ, _-_, _≤_}
 use native.Mathlib.Omega.{arith}
 use lib.ListN.{length, take, drop, length-append, length-take}
 use lib.Ieee.{Float, binary64, add, sub, lt, le}
-use Rattle.motion.specs.Float as Float
-use Rattle.motion.specs.Float.{epsilon}
-use Rattle.motion.proofs.Cases.{and-left}
+use Rattle.float.specs.Float as Float
+use Rattle.float.specs.Float.{epsilon}
+use Rattle.float.proofs.Cases.{and-left}
 use Rattle.world.specs.World.{stopAt}
 use Rattle.world.specs.declared.LineKind.{LineKind}
 use Rattle.world.specs.declared.LineKind.the-variants.{Linear, Loop}
 use Rattle.world.specs.declared.StopOption.{StopOption}
-use Rattle.lookup.specs.Sorted.{sortedStops}
+use Rattle.sorted.specs.Sorted.{sortedStops}
 use Rattle.trips.specs.Spans.{spanOf, manualSpan}
 use Rattle.trips.specs.declared.span.Span.{Span}
 use Rattle.trips.specs.declared.span.Span.the-variants.{Range, Seam}

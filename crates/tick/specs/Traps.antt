@@ -5,8 +5,8 @@ use mathlib.Core.List.{List, [], _∷_, _++_}
 use Prim.Native.Nat.{ℕ, zero, suc}
 use lib.ListN.{length, drop, replicate}
 use lib.Ieee.{Float, binary64, ofBits, add, sub, le}
-use Rattle.motion.specs.Float as Float
-use Rattle.motion.specs.Float.{one, two, epsilon, signum}
+use Rattle.float.specs.Float as Float
+use Rattle.float.specs.Float.{one, two, epsilon, signum}
 use Rattle.motion.specs.Movement.{tickMovement, arrivedAt}
 use Rattle.motion.specs.declared.movement.MovementResult.{MovementResult}
 use Rattle.world.specs.World.{carAt, newCar, emptyWorld}
@@ -19,8 +19,8 @@ use Rattle.world.specs.declared.LineKind.{LineKind}
 use Rattle.world.specs.declared.LineKind.the-variants.{Linear, Loop}
 use Rattle.world.specs.declared.ElevatorPhase.the-variants.{MovingToStop}
 use Rattle.world.specs.declared.StopOption.the-variants.{NoStop, Stop}
-use Rattle.lookup.specs.Sorted.{sortedStops}
-use Rattle.trips.specs.Landing.{drivenTo}
+use Rattle.sorted.specs.Sorted.{sortedStops}
+use Rattle.landing.specs.Landing.{drivenTo}
 use Rattle.movement_system.specs.Passing.{startOf, endOf, emitRange}
 use Rattle.tick.specs.Tick.{tickWorld, tickWords}
 use Rattle.tick.specs.Room.{roomOf}

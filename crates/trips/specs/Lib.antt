@@ -1,4 +1,2 @@
 pub mod Trips
 pub mod Spans
-pub mod Landing
-pub mod Arrival

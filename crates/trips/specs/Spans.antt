@@ -1,7 +1,7 @@
 -- What a tick sweeps over: systems/movement.rs, `crossed_seam` in run and in tick_manual.
 use mathlib.Core.Bool.{Bool, true, _&&_, cond}
 use lib.Ieee.{Float, lt, le}
-use Rattle.motion.specs.Float as Float
+use Rattle.float.specs.Float as Float
 use Rattle.world.specs.declared.LineKind.{LineKind}
 use Rattle.world.specs.declared.LineKind.the-variants.{Linear, Loop}
 use Rattle.trips.specs.declared.span.Span.{Span}

@@ -1,8 +1,8 @@
 -- Which way a car goes in a tick, and how far: systems/movement.rs, run.
 use mathlib.Core.Bool.{Bool, true, false, cond}
 use lib.Ieee.{Float, binary64, add, sub, lt}
-use Rattle.motion.specs.Float as Float
-use Rattle.motion.specs.Float.{abs}
+use Rattle.float.specs.Float as Float
+use Rattle.float.specs.Float.{abs}
 use Rattle.motion.specs.Cyclic.{forwardDistance}
 use Rattle.world.specs.declared.Car.{Car}
 use Rattle.world.specs.declared.ServiceMode.{ServiceMode}

@@ -1,12 +1,10 @@
-// A car's trip in a tick: which way it goes, where it lands, and what it does at its stop.
-pub mod arrival; // the queue's front, and lamps from remaining work
-pub mod landing; // where a tick takes a car
+// A car's trip in a tick: which way it goes, and what it sweeps over.
 pub mod span; // what it sweeps over
 
 ghost use mathlib.Core.Path.{_≡_};
 ghost use Rattle.trips.specs.Trips as Trips;
+use float::abs;
 use motion::cyclic::forward_distance;
-use motion::float::abs;
 use world::Car;
 use world::ElevatorPhase;
 use world::LineKind;

@@ -8,9 +8,10 @@ use lib.Dec.{ltb, eqb}
 use lib.ListN.{length, getD, set, length-append, List·getD-append}
 use lib.Ieee.{Float}
 use borrow.Author.Tests.{le-ltb, ne-eqb}
-use Rattle.tape.specs.declared.head.Head.{Head}
+use Rattle.fields.specs.declared.head.Head.{Head}
 use Rattle.tape.specs.declared.Decoded.{Decoded}
-use Rattle.tape.specs.Tape.{Kind, kindIn, kinds, answer, headOf, servesCount, servesOutside, servesTo, floatAt, rawZeroAt, lineFieldsOutside, lineFloatsOutside, lineKindOf, lineRecord, stopRecord, carRecord, riderRecord, manualSpeedRecord, tickRecord, recordOf, decoded}
+use Rattle.tape.specs.Tape.{Kind, kindIn, kinds, answer, servesCount, servesOutside, servesTo, lineFieldsOutside, lineFloatsOutside, lineKindOf, lineRecord, stopRecord, carRecord, riderRecord, manualSpeedRecord, tickRecord, recordOf, decoded}
+use Rattle.fields.specs.Fields.{headOf, floatAt, rawZeroAt}
 use Rattle.tape.proofs.Serves.{count-small}
 use Rattle.whole_tape.specs.WholeTape.{Ignored}
 

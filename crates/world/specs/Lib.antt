@@ -1,5 +1,4 @@
 pub mod World
 pub mod With
 pub mod Refusal
-pub mod Sound
 pub mod Calls

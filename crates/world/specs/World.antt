@@ -4,7 +4,7 @@ use mathlib.Core.List.{List, []}
 use Prim.Native.Nat.{ℕ}
 use lib.ListN.{getD, replicate}
 use lib.Ieee.{Float, nan}
-use Rattle.motion.specs.Float.{zero}
+use Rattle.float.specs.Float.{zero}
 use Rattle.door.specs.declared.DoorState.the-variants as Door
 use Rattle.door.specs.declared.DoorCommand.the-variants as Command
 use Rattle.world.specs.declared.World.{World}

@@ -3,7 +3,6 @@
 pub mod calls; // sets of hall calls
 pub mod empty; // a new car, the empty world
 pub mod refusal; // the refusals and their numbers
-pub mod sound; // what refusal 0 asks
 
 use door::DoorCommand;
 use door::DoorState;

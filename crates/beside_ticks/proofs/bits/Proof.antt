@@ -1,8 +1,8 @@
 -- `beside_ticks::bits` meets its contract. Assumes nothing.
 use mathlib.Core.Path.{sym, _∙_}
 use borrow.Author.Needs.{needs}
-use Rattle.motion.specs.Float.{numberBits}
-use Rattle.motion.proofs.Cases.{ne-self, fails}
+use Rattle.float.specs.Float.{numberBits}
+use Rattle.float.proofs.Cases.{ne-self, fails}
 use Rattle.beside_ticks.proofs.bits.Statement.{statement}
 use Rattle.beside_ticks.proofs.bits.Tie as tie
 

@@ -1,21 +1,23 @@
 -- `tick::traps` meets its contract: every example computes. Assumes nothing.
 use mathlib.Core.Path.{refl}
 use lib.Ieee.{ofBits, add, sub, mul, div, rem, neg, lt, le, eq, isNan}
-use Rattle.motion.specs.Float.{abs, signum, isFinite, max, remEuclid}
+use Rattle.float.specs.Float.{abs, signum, isFinite, max, remEuclid}
 use Rattle.motion.specs.Cyclic.{wrapPosition, forwardDistance}
-use Rattle.motion.specs.Movement.{decelerated, accelerated, newVelocity, tickMovement, tickMovementCyclic, headwayClampTarget}
+use Rattle.motion.specs.Movement.{tickMovement, tickMovementCyclic, headwayClampTarget}
+use Rattle.velocity.specs.Velocity.{decelerated, accelerated, newVelocity}
 use Rattle.world.specs.Calls.{called}
 use Rattle.world.specs.World.{emptyWorld}
-use Rattle.lookup.specs.Stops.{loopNextStopForCar}
-use Rattle.lookup.specs.Leader.{leaderTo, loopLeaderPos}
-use Rattle.lookup.specs.Sorted.{positionBefore, stopBefore, inserted, sortedStops}
+use Rattle.next_stop.specs.NextStop.{loopNextStopForCar}
+use Rattle.leader.specs.Leader.{leaderTo, loopLeaderPos}
+use Rattle.sorted.specs.Sorted.{positionBefore, stopBefore, inserted, sortedStops}
 use Rattle.log.specs.Words.{word, tickWord}
 use Rattle.steps.specs.Steps.{plus, lineOf, runTo, runCars}
-use Rattle.trips.specs.Arrival.{ridersTo, queuedTo, directionFromRemainingWork, popped}
+use Rattle.arrival.specs.Arrival.{ridersTo, queuedTo, directionFromRemainingWork, popped}
 use Rattle.movement_system.specs.Passing.{countIn, startOf, endOf, between, unlessTarget, without, emitRange, passingWords}
 use Rattle.movement_system.specs.Movement.{moveOf, moved}
-use Rattle.doors_system.specs.Commands.{workTo, workWordsTo, processDoorCommands, commandWords}
-use Rattle.doors_system.specs.Doors.{doorOf, clearWord, clearTo, clearWordsTo, doored, doorsWorld, doorsWords}
+use Rattle.door_commands.specs.Commands.{workTo, workWordsTo, processDoorCommands, commandWords}
+use Rattle.doors_system.specs.Doors.{doorOf, doored, doorsWorld, doorsWords}
+use Rattle.hall_calls.specs.Clearing.{clearWord, clearTo, clearWordsTo}
 use Rattle.tick.specs.Tick.{tickWorld, tickWords}
 use Rattle.tick.specs.Room.{roomOf}
 use Rattle.tick.specs.Traps.{Traps, worldAfter, told}

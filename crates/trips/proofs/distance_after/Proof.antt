@@ -2,7 +2,7 @@
 use mathlib.Core.Path.{_≡_}
 use mathlib.Core.Bool.{true, false}
 use lib.Ieee.{lt}
-use Rattle.motion.specs.Float.{zero}
+use Rattle.float.specs.Float.{zero}
 use Rattle.trips.proofs.distance_after.Statement.{statement}
 use Rattle.trips.proofs.distance_after.Tie as tie
 

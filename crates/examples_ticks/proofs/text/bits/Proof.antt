@@ -1,7 +1,7 @@
 -- `examples_ticks::text::bits` is safe. Assumes nothing.
 use mathlib.Core.Path.{sym, _∙_}
 use borrow.Author.Needs.{needs}
-use Rattle.motion.proofs.Cases.{ne-self, fails}
+use Rattle.float.proofs.Cases.{ne-self, fails}
 use Rattle.examples_ticks.proofs.text.bits.Statement.{statement}
 use Rattle.examples_ticks.proofs.text.bits.Tie as tie
 

@@ -2,7 +2,7 @@
 use mathlib.Core.Path.{_≡_}
 use mathlib.Core.Bool.{cond}
 use lib.Ieee.{binary64, add, sub, lt}
-use Rattle.motion.specs.Float.{zero}
+use Rattle.float.specs.Float.{zero}
 use Rattle.motion.specs.Cyclic.{forwardDistance}
 use Rattle.motion.proofs.cyclic.forward_distance.Statement.{statement}
 use Rattle.motion.proofs.cyclic.forward_distance.Tie as tie

@@ -2,7 +2,7 @@
 use mathlib.Core.Path.{_≡_}
 use mathlib.Core.Bool.{cond}
 use lib.Ieee.{le}
-use Rattle.motion.specs.Float.{zero}
+use Rattle.float.specs.Float.{zero}
 use Rattle.motion.specs.Cyclic.{wrapPosition}
 use Rattle.motion.proofs.cyclic.wrap_position.Statement.{statement}
 use Rattle.motion.proofs.cyclic.wrap_position.Tie as tie

@@ -1,14 +1,14 @@
 -- `motion::facts::facts` meets its contract. Assumes nothing.
 use mathlib.Core.Path.{refl}
 use lib.Ieee.{ofBits, add, sub, rem, neg, lt, le, eq, isNan}
-use Rattle.motion.specs.Float.{abs, isFinite, max, remEuclid}
+use Rattle.float.specs.Float.{abs, isFinite, max, remEuclid}
 use Rattle.motion.specs.Cyclic.{wrapPosition, forwardDistance}
 use Rattle.motion.specs.Movement.{headwayClampTarget}
 use Rattle.motion.specs.Facts.{HeadwayOnLargeCircle}
 use Rattle.motion.proofs.Circle.{wrap-in-circle, forward-in-circle, forward-is-number}
 use Rattle.motion.proofs.Headway.{headway-in-circle}
-use Rattle.motion.proofs.Sides.{epsilon-keeps-side}
-use Rattle.motion.proofs.Total.{total-order}
+use Rattle.float.proofs.Sides.{epsilon-keeps-side}
+use Rattle.float.proofs.Total.{total-order}
 use Rattle.motion.proofs.facts.facts.Statement.{statement}
 use Rattle.motion.proofs.facts.facts.Tie as tie
 

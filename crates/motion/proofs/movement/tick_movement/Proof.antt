@@ -2,7 +2,7 @@
 use mathlib.Core.Path.{_≡_}
 use mathlib.Core.Bool.{cond, _||_, false}
 use lib.Ieee.{lt}
-use Rattle.motion.specs.Float.{epsilon}
+use Rattle.float.specs.Float.{epsilon}
 use Rattle.motion.specs.Movement.{tickMovement, arrivedAt}
 use Rattle.motion.proofs.movement.tick_movement.Statement.{statement}
 use Rattle.motion.proofs.movement.tick_movement.Tie as tie

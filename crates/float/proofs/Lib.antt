@@ -1,0 +1,4 @@
+pub mod Cases
+pub mod Rounding
+pub mod Sides
+pub mod Total

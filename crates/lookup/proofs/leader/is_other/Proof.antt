@@ -1,7 +1,0 @@
--- `lookup::leader::is_other` meets its contract. Assumes nothing.
-use mathlib.Core.Path.{refl}
-use Rattle.lookup.proofs.leader.is_other.Statement.{statement}
-use Rattle.lookup.proofs.leader.is_other.Tie as tie
-
-pub is-other-spec : {M : Type 1} → statement M
-is-other-spec = tie.close (tie.spec (λ c. refl))

@@ -1,0 +1,34 @@
+-- `sound::car_broken` meets its contract. Assumes nothing.
+use Rattle.sound.specs.Sound.{carBroken}
+use borrow.Author.Tests.{lt-ltb, le-ltb}
+use borrow.Author.Needs.{needs}
+use Rattle.sound.proofs.car_broken.Statement.{statement}
+use Rattle.sound.proofs.car_broken.Tie as tie
+
+returns : tie.Need-returns
+unfolding carBroken
+returns c = rw (lt-ltb 8 (c .before .args .t3 .«destination_count») (c .if1 .taken))
+
+returns-2 : tie.Need-returns-2
+unfolding carBroken
+returns-2 c =
+    let t = c .before .before .before .before in
+    let b = t .before .before .before in
+    rw (
+      le-ltb 8 (b .before .args .t3 .«destination_count») (b .if1 .left),
+      t .before .before .unloaded .ensures,
+      t .before .phase-unloaded .ensures,
+      t .stop-unloaded .ensures,
+      c .one-unloaded .ensures,
+    )
+
+pub car-broken-spec : {M : Type 1} → statement M
+car-broken-spec =
+    tie.close
+    (tie.spec
+    returns
+    (λ c κs. tt)
+    (λ c κs. tt)
+    (λ c κs. tt)
+    (λ c κs. search needs)
+    returns-2)
