@@ -6,7 +6,7 @@ use std::io;
 use std::process::{Command, Stdio};
 
 use crate::study::{Studied, study};
-use crate::tapes;
+use crate::{limits, tapes};
 
 /// How many differing tapes are printed.
 const SHOWN: u64 = 5;
@@ -74,8 +74,8 @@ pub fn compare(mut program: Command, seed: u64, count: u64, folder: &str) -> io:
     let mut totals = Totals::default();
     fs::create_dir_all(folder)?;
     let input = format!("{folder}/now");
-    for number in 0..count {
-        let tape = tapes::make(seed, number);
+    let random = (0..count).map(|number| tapes::make(seed, number));
+    for (number, tape) in random.chain(limits::tapes()).enumerate() {
         let studied = study(&tape.bytes, |_, _| {});
         totals.add(tape.kind, &studied);
         fs::write(&input, &tape.bytes)?;

@@ -5,7 +5,7 @@ use inputs::Draw;
 use crate::tapes::Words;
 
 /// Floats at the ends of the ranges, and past them.
-const ENDS: [f64; 20] = [
+pub const ENDS: [f64; 20] = [
     0.0,
     -0.0,
     5e-324,
@@ -29,7 +29,7 @@ const ENDS: [f64; 20] = [
 ];
 
 /// Numbers at the ends of the fields.
-const NUMBERS: [u32; 18] = [
+pub const NUMBERS: [u32; 18] = [
     0, 1, 2, 3, 4, 5, 7, 8, 15, 16, 63, 64, 65, 127, 128, 254, 255, 0xffff,
 ];
 
@@ -109,7 +109,7 @@ fn change_head(record: &mut Words, draw: &mut Draw) {
 }
 
 /// The places of a record's floats.
-fn floats(record: &[u32]) -> &'static [usize] {
+pub fn floats(record: &[u32]) -> &'static [usize] {
     match record[0] >> 28 {
         1 => &[1, 3],
         2 | 7 | 0xC => &[1],

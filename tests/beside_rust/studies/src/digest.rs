@@ -6,13 +6,14 @@ use std::io::{self, BufWriter, Write};
 use std::panic;
 
 use crate::study::study;
-use crate::tapes;
+use crate::{limits, tapes};
 
-/// Writes the random tapes, each after its length.
+/// Writes the tapes, each after its length.
 pub fn make(seed: u64, count: u64, file: &str) -> io::Result<bool> {
     let mut out = BufWriter::new(File::create(file)?);
-    for number in 0..count {
-        let bytes = tapes::make(seed, number).bytes;
+    let random = (0..count).map(|number| tapes::make(seed, number));
+    for tape in random.chain(limits::tapes()) {
+        let bytes = tape.bytes;
         out.write_all(&(bytes.len() as u32).to_le_bytes())?;
         out.write_all(&bytes)?;
     }

@@ -7,6 +7,7 @@ mod compare;
 mod damage;
 mod digest;
 mod edges;
+mod limits;
 mod study;
 mod tapes;
 
