@@ -1,14 +1,10 @@
 // Small tapes, a line each: a name, '=', and the words in hexadecimal. Every record but the last sets the scene.
 // It prints what the last one is answered, or which earlier one was refused. A line that begins with '#' is a heading.
 ghost use Prim.Native.Nat.{_≤_};
-use changes::Changed;
-use changes::Taken;
 use libc::STDIN_FILENO;
 use libc::STDOUT_FILENO;
-use sound::broken;
-use tape::Read;
-use tape::Record;
-use tape::decode;
+use record::Answer;
+use record::record;
 use world::World;
 use world::empty::empty;
 use world::refusal::Refusal;
@@ -18,7 +14,6 @@ use world::refusal::number;
 enum End {
     Accepted,
     Refused(Refusal),
-    Tick,
     TooLong,
 }
 
@@ -113,92 +108,22 @@ struct Step {
     world: World,
 }
 
-fn refused(world: World, refusal: Refusal) -> Step {
-    Step {
-        end: End::Refused(refusal),
-        used: 0,
-        world,
-    }
-}
-
-fn answered(changed: Changed, used: usize) -> Step {
-    let world = changed.world;
-    let taken = changed.taken;
-    match taken {
-        Taken::Refused(refusal) => refused(world, refusal),
-        Taken::Accepted => Step {
+// The next record of a tape.
+fn take(world: World, words: &[u32]) -> Step {
+    let mut log = [0u32; 2048];
+    let recorded = record(world, words, &mut log);
+    let next = recorded.world;
+    let answer = recorded.answer;
+    match answer {
+        Answer::Refused(refusal) => Step {
+            end: End::Refused(refusal),
+            used: 0,
+            world: next,
+        },
+        Answer::Accepted { used, .. } => Step {
             end: End::Accepted,
             used,
-            world,
-        },
-    }
-}
-
-// What loads: kinds 1 to 4 and D. Any other record leaves the world.
-fn load(world: World, record: Record, serves: [u8; 64]) -> Changed {
-    match record {
-        Record::Line {
-            number,
-            kind,
-            listed,
-            count,
-        } => loads::load_line(world, number, kind, listed, count, serves),
-        Record::Stop { number, position } => loads::load_stop(world, number, position),
-        Record::Car {
-            number,
-            line,
-            motion,
-            door_transition_ticks,
-            door_open_ticks,
-        } => loads::load_car(
-            world,
-            number,
-            line,
-            motion,
-            door_transition_ticks,
-            door_open_ticks,
-        ),
-        Record::Rider { number, rider } => loads::load_rider(world, number, rider),
-        Record::Start => changes::start(world),
-        _ => order(world, record),
-    }
-}
-
-// What orders: kinds 5 to B.
-fn order(world: World, record: Record) -> Changed {
-    match record {
-        Record::Send {
-            car,
-            stop,
-            reposition,
-        } => orders::send(world, car, stop, reposition),
-        Record::Mode { car, mode } => modes::set_mode(world, car, mode),
-        Record::ManualSpeed { car, speed } => modes::set_manual_speed(world, car, speed),
-        Record::DoorCommand { car, command } => requests::queue_command(world, car, command),
-        Record::HallCall { stop, down } => requests::press_hall_call(world, stop, down),
-        Record::Destination { car, stop } => requests::push_destination(world, car, stop),
-        Record::Enable { car, enabled } => modes::set_enabled(world, car, enabled),
-        _ => changes::accepted(world),
-    }
-}
-
-// The next record of a tape. A tick is read and not made.
-fn take(world: World, words: &[u32]) -> Step {
-    if broken(world) {
-        return refused(world, Refusal::BrokenWorld);
-    }
-    let decoded = decode(words);
-    let serves = decoded.serves;
-    let read = decoded.read;
-    match read {
-        Read::Refused(refusal) => refused(world, refusal),
-        Read::Accepted(record, used) => match record {
-            Record::Tick { .. } => Step {
-                end: End::Tick,
-                used,
-                world,
-            },
-            _ => answered(load(world, record, serves), used),
+            world: next,
         },
     }
 }
@@ -226,7 +151,6 @@ fn goes_on(end: End) -> bool {
     match end {
         End::Accepted => true,
         End::Refused(_) => false,
-        End::Tick => true,
         End::TooLong => false,
     }
 }
@@ -303,7 +227,6 @@ fn print_end(ran: Ran) {
             io::print_decimal(STDOUT_FILENO, ran.records);
             print(b"\n");
         }
-        End::Tick => print(b"a tick, read\n"),
         End::TooLong => print(b"too long\n"),
     }
 }
