@@ -3,6 +3,8 @@
 use std::io::{self, Read, Write};
 use std::process::{Command, ExitCode};
 
+use ticks::words;
+
 mod compare;
 mod damage;
 mod digest;
@@ -21,42 +23,9 @@ const USAGE: &str = "usage: studies [--seed N] [--tapes N] [--keep FOLDER] MODE,
   digest FILE
       a line for each of the first N tapes of such a file: digests of the Rust's output and of its worlds";
 
-struct Words {
-    plain: Vec<String>,
-    seed: u64,
-    tapes: u64,
-    keep: String,
-}
-
-fn words() -> Result<Words, String> {
-    let mut words = Words {
-        plain: Vec::new(),
-        seed: 1,
-        tapes: 5_000,
-        keep: "target/differing_studies".to_string(),
-    };
-    let mut arguments = std::env::args().skip(1);
-    while let Some(word) = arguments.next() {
-        if !word.starts_with("--") {
-            words.plain.push(word);
-            words.plain.extend(arguments);
-            break;
-        }
-        let next = arguments.next().ok_or(format!("{word}: what follows?"))?;
-        let number = next.parse().map_err(|_| format!("{next}: not a number"));
-        match word.as_str() {
-            "--seed" => words.seed = number?,
-            "--tapes" => words.tapes = number?,
-            "--keep" => words.keep = next,
-            _ => return Err(format!("{word}: not known")),
-        }
-    }
-    Ok(words)
-}
-
 fn main() -> ExitCode {
     elevator_core::study::quiet();
-    let words = match words() {
+    let words = match words::words(5_000, "target/differing_studies") {
         Ok(words) => words,
         Err(message) => {
             eprintln!("{message}\n{USAGE}");
@@ -78,14 +47,7 @@ fn main() -> ExitCode {
             return ExitCode::from(2);
         }
     };
-    match alike {
-        Ok(true) => ExitCode::SUCCESS,
-        Ok(false) => ExitCode::FAILURE,
-        Err(error) => {
-            eprintln!("{error}");
-            ExitCode::from(2)
-        }
-    }
+    words::status(alike)
 }
 
 fn answer() -> io::Result<bool> {

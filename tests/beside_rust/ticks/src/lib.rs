@@ -6,3 +6,4 @@ pub mod player;
 pub mod reach;
 pub mod record;
 pub mod tapes;
+pub mod words;

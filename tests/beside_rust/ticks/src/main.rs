@@ -4,7 +4,7 @@ use std::fs;
 use std::io::{self, BufRead, Write};
 use std::process::{Command, ExitCode};
 
-use ticks::tapes;
+use ticks::{tapes, words};
 
 mod fixed;
 mod program;
@@ -21,42 +21,9 @@ const USAGE: &str = "usage: ticks [--seed N] [--tapes N] [--keep FILE] MODE, whe
   fixed FOLDER
       chooses short tapes and writes them and the Rust's answers as FOLDER/stdin and FOLDER/stdout";
 
-struct Words {
-    plain: Vec<String>,
-    seed: u64,
-    tapes: u64,
-    keep: String,
-}
-
-fn words() -> Result<Words, String> {
-    let mut words = Words {
-        plain: Vec::new(),
-        seed: 1,
-        tapes: 10_000,
-        keep: "target/differing_tapes".to_string(),
-    };
-    let mut arguments = std::env::args().skip(1);
-    while let Some(word) = arguments.next() {
-        if !word.starts_with("--") {
-            words.plain.push(word);
-            words.plain.extend(arguments);
-            break;
-        }
-        let next = arguments.next().ok_or(format!("{word}: what follows?"))?;
-        let number = next.parse().map_err(|_| format!("{next}: not a number"));
-        match word.as_str() {
-            "--seed" => words.seed = number?,
-            "--tapes" => words.tapes = number?,
-            "--keep" => words.keep = next,
-            _ => return Err(format!("{word}: not known")),
-        }
-    }
-    Ok(words)
-}
-
 fn main() -> ExitCode {
     elevator_core::study::quiet();
-    let words = match words() {
+    let words = match words::words(10_000, "target/differing_tapes") {
         Ok(words) => words,
         Err(message) => {
             eprintln!("{message}\n{USAGE}");
@@ -84,14 +51,7 @@ fn main() -> ExitCode {
             return ExitCode::from(2);
         }
     };
-    match alike {
-        Ok(true) => ExitCode::SUCCESS,
-        Ok(false) => ExitCode::FAILURE,
-        Err(error) => {
-            eprintln!("{error}");
-            ExitCode::from(2)
-        }
-    }
+    words::status(alike)
 }
 
 fn make(seed: u64, count: u64) -> io::Result<bool> {
