@@ -3,19 +3,21 @@ use mathlib.Core.Path.{_≡_, refl, sym, ap, subst, _∙_}
 use mathlib.Core.List.{List, [], _∷_}
 use Prim.Native.Nat.{ℕ}
 use lib.Ieee.{ofBits, le}
-use Rattle.motion.specs.Float.{isFinite}
+use Rattle.float.specs.Float.{isFinite}
 use Rattle.world.specs.World.{emptyWorld}
-use Rattle.world.specs.Sound.{anyTo, countsBroken, broken}
+use Rattle.sound.specs.Sound.{anyTo, countsBroken, broken}
 use Rattle.world.specs.declared.World.{World}
 use Rattle.log.specs.Words.{tickWord}
 use Rattle.steps.specs.Steps.{plus, runTo, runCars}
 use Rattle.movement_system.specs.Movement.{moved}
-use Rattle.doors_system.specs.Doors.{clearWordsTo, doored, doorsWorld, doorsWords}
+use Rattle.hall_calls.specs.Clearing.{clearWordsTo}
+use Rattle.doors_system.specs.Doors.{doored, doorsWorld, doorsWords}
 use Rattle.tick.specs.Tick.{tickWorld, tickWords}
 use Rattle.tick.specs.Room.{roomOf}
-use Rattle.tape.specs.Tape.{floatAt, decoded}
+use Rattle.fields.specs.Fields.{floatAt}
+use Rattle.tape.specs.Tape.{decoded}
 use Rattle.tape.specs.Tape as Tape
-use Rattle.loads.specs.Loads.{start}
+use Rattle.changes.specs.Changes.{start}
 use Rattle.record.specs.declared.Answer.{Answer}
 use Rattle.record.specs.Record.{Outcome, recordOf, tickOnce}
 use Rattle.record.specs.Calls.{Call, outcome, next, worldAfter}
