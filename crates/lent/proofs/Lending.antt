@@ -2,13 +2,28 @@
 use mathlib.Core.Path.{_≡_, refl, sym, ap, subst, _∙_}
 use mathlib.Core.List.{List, [], _∷_}
 use Prim.Native.Nat.{ℕ}
+use lib.Ieee.{ofBits, le}
+use Rattle.float.specs.Float.{isFinite}
+use Rattle.world.specs.World.{emptyWorld}
+use Rattle.sound.specs.Sound.{anyTo, countsBroken, broken}
 use Rattle.world.specs.declared.World.{World}
+use Rattle.log.specs.Words.{tickWord}
+use Rattle.steps.specs.Steps.{plus, runTo, runCars}
+use Rattle.movement_system.specs.Movement.{moved}
+use Rattle.hall_calls.specs.Clearing.{clearWordsTo}
+use Rattle.doors_system.specs.Doors.{doored, doorsWorld, doorsWords}
+use Rattle.tick.specs.Tick.{tickWorld, tickWords}
+use Rattle.tick.specs.Room.{roomOf}
+use Rattle.fields.specs.Fields.{floatAt}
+use Rattle.tape.specs.Tape.{decoded}
+use Rattle.tape.specs.Tape as Tape
+use Rattle.changes.specs.Changes.{start}
 use Rattle.record.specs.declared.Answer.{Answer}
-use Rattle.record.specs.Record.{Outcome, recordOf}
+use Rattle.record.specs.Record.{Outcome, recordOf, tickOnce}
 use Rattle.record.specs.Calls.{Call, outcome, next, worldAfter}
 use Rattle.record.specs.Conditions.{Kept, FirstCondition}
 use Rattle.record.proofs.Answering.{first-condition}
-use Rattle.lent.specs.Lent.{Lent, Made, InTurn, given, gave, left, outcomes, AsCalled, FirstLent, LentCalls}
+use Rattle.lent.specs.Lent.{Lent, Made, InTurn, given, gave, left, outcomes, AsCalled, FirstLent, three, Three, Shown, LentCalls}
 
 -- an outcome is its three parts
 whole : (o p : Outcome) → o .answer ≡ p .answer → o .world ≡ p .world → o .log ≡ p .log → o ≡ p
@@ -44,6 +59,22 @@ first-lent : FirstLent
 unfolding InTurn outcome
 first-lent w m t = subst (λ (o : Outcome). Kept w (m .call .words) (m .call .log) o) (sym (told w m (t .0))) (kept first-condition w (m .call .words) (m .call .log))
 
+-- what is said of three outcomes, of a list of them
+abbrev Threes : List Outcome → Type 0
+Threes [] = ⊥
+Threes (a ∷ []) = ⊥
+Threes (a ∷ b ∷ []) = ⊥
+Threes (a ∷ b ∷ c ∷ []) = Three a b c
+Threes (a ∷ b ∷ c ∷ d ∷ os) = ⊥
+
+computed : (a b c : Outcome) → Threes (outcomes emptyWorld (given (three a b c)))
+unfolding given outcomes outcome next recordOf Tape.recordOf tickOnce decoded floatAt start anyTo countsBroken broken roomOf emptyWorld tickWorld tickWords doorsWorld doorsWords plus runTo runCars tickWord isFinite ofBits le moved doored clearWordsTo
+computed a b c = record { accepted = refl; started = refl; refused = refl; waits = refl; ticked = refl; ticks = refl; word = refl }
+
+shown : Shown
+unfolding gave
+shown a b c t = subst Threes (sym (as-called emptyWorld (three a b c) t .each)) (computed a b c)
+
 pub lent-calls : LentCalls
 unfolding LentCalls
-lent-calls = (as-called, first-lent)
+lent-calls = (as-called, first-lent, shown)

@@ -1,9 +1,13 @@
 -- The record call on a lent world: what it answers and what it leaves, by the definition of the by-value call; and that lists of these calls are the certificate's lists.
 use mathlib.Core.Path.{_≡_}
+use mathlib.Core.Bool.{true}
 use mathlib.Core.List.{List, [], _∷_}
 use Prim.Native.Nat.{ℕ}
+use Rattle.world.specs.World.{emptyWorld}
 use Rattle.world.specs.declared.World.{World}
+use Rattle.world.specs.declared.refusal.Refusal.the-variants.{LogShort}
 use Rattle.record.specs.declared.Answer.{Answer}
+use Rattle.record.specs.declared.Answer.the-variants.{Accepted, Refused}
 use Rattle.record.specs.Record.{Outcome, recordOf}
 use Rattle.record.specs.Calls.{Call, outcome, next, worldAfter}
 use Rattle.record.specs.Conditions.{Kept}
@@ -55,5 +59,32 @@ pub record AsCalled (w : World) (ms : List Made) : Type 0 where
 abbrev pub FirstLent : Type 0
 FirstLent = (w : World) (m : Made) → InTurn w (m ∷ []) → Kept w (m .call .words) (m .call .log) (m .gave)
 
+-- ---- three calls in turn, by computing: an empty world is lent to its start, to a tick whose log has no room, and to the tick again with a log of one word
+
+abbrev pub tickHalf : List ℕ
+tickHalf = 0xc000_0000 ∷ 0x3fe0_0000 ∷ 0 ∷ []
+
+abbrev pub three : Outcome → Outcome → Outcome → List Made
+three a b c =
+    record { call = record { words = 0xd000_0000 ∷ []; log = [] }; gave = a }
+    ∷ record { call = record { words = tickHalf; log = [] }; gave = b }
+    ∷ record { call = record { words = tickHalf; log = 7 ∷ [] }; gave = c }
+    ∷ []
+
+pub record Three (a b c : Outcome) : Type 0 where
+  -- an accepted record leaves the next world
+  pub accepted : a .answer ≡ Accepted 1 0
+  pub started : a .world .started ≡ true
+  -- a refused one the old
+  pub refused : b .answer ≡ Refused LogShort
+  pub waits : b .world .ticks ≡ 0
+  -- a tick's word is in the log
+  pub ticked : c .answer ≡ Accepted 3 1
+  pub ticks : c .world .ticks ≡ 1
+  pub word : c .log ≡ 0 ∷ []
+
+abbrev pub Shown : Type 0
+Shown = (a b c : Outcome) → InTurn emptyWorld (three a b c) → Three a b c
+
 unfoldable pub LentCalls : Type 0
-LentCalls = ((w : World) (ms : List Made) → InTurn w ms → AsCalled w ms) × FirstLent
+LentCalls = ((w : World) (ms : List Made) → InTurn w ms → AsCalled w ms) × FirstLent × Shown

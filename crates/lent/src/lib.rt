@@ -1,11 +1,14 @@
-// The record call on a lent world, which it updates in place.
+// The record call on a lent world, which it updates in place, and the report of one.
 ghost use mathlib.Core.Path.{_≡_};
 ghost use mathlib.Core.Bool.{true};
 ghost use Rattle.record.specs.Record.{Gives, recordOf};
+ghost use Rattle.report.specs.Report.{reportOf};
 ghost use Rattle.lent.specs.Lent.{Lent, LentCalls};
 use record::Answer;
 use record::Recorded;
 use record::record;
+use report::Reported;
+use report::report;
 use world::World;
 
 // One record call: the by-value call on the world that is lent, and the world that it gives put back.
@@ -27,6 +30,13 @@ pub fn turn(world: World, words: &[u32], log: &mut [u32]) -> Recorded
         answer,
         world: kept,
     }
+}
+
+// The report of a lent world and a log's words: the by-value report, and the world left alone.
+pub fn report_lent(world: &World, words: &[u32]) -> Reported
+    ensures { λ r. ⌜ r ≡ reportOf (now (world .entry)) (now (words .entry)) ⌝ }
+{
+    report(*world, words)
 }
 
 // Carries the claim that the certificate's calls are these calls.
