@@ -40,8 +40,8 @@ pub fn make(seed: u64, number: u64) -> Tape {
 
 fn size(draw: &mut Draw) -> (Size, &'static str) {
     match draw.below(40) {
-        0 => (ENDLESS, "whole, thousands of ticks"),
-        1..=8 => (WIDE, "whole, to 16 cars and 64 stops"),
+        0 | 1 => (ENDLESS, "whole, thousands of ticks"),
+        2..=8 => (WIDE, "whole, to 16 cars and 64 stops"),
         9..=11 => (SHORT, "whole, a few ticks"),
         _ => (LONG, "whole, some ticks"),
     }

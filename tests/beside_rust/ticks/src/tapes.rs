@@ -57,7 +57,7 @@ pub const SHORT: Size = Size {
 
 /// 1 to 16 cars, 1 to 64 stops.
 pub const WIDE: Size = Size {
-    ticks: [5, 40],
+    ticks: [5, 120],
     cars: 16,
     stops: 64,
     full_in: 25,
