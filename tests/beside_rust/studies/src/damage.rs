@@ -33,18 +33,31 @@ const NUMBERS: [u32; 18] = [
     0, 1, 2, 3, 4, 5, 7, 8, 15, 16, 63, 64, 65, 127, 128, 254, 255, 0xffff,
 ];
 
-/// Changes one to three records.
+/// Changes one to three records, or one in one to three places.
 pub fn change_records(records: &mut Vec<Words>, draw: &mut Draw) {
-    for _ in 0..1 + draw.below(3) {
-        if !records.is_empty() {
+    let times = 1 + draw.below(3);
+    let at = any_record(records, draw);
+    let one = draw.once_in(3);
+    for _ in 0..times {
+        if one {
+            change_fields(&mut records[at], draw);
+        } else if !records.is_empty() {
             change(records, draw);
         }
     }
 }
 
+fn change_fields(record: &mut Words, draw: &mut Draw) {
+    match draw.below(5) {
+        0 | 1 => change_head(record, draw),
+        2 | 3 => change_float(record, draw),
+        _ => change_word(record, draw),
+    }
+}
+
 fn change(records: &mut Vec<Words>, draw: &mut Draw) {
     let at = any_record(records, draw);
-    match draw.below(12) {
+    match draw.below(10) {
         0 => {
             let copy = records[at].clone();
             records.insert(any_place(records, draw), copy);
@@ -56,15 +69,13 @@ fn change(records: &mut Vec<Words>, draw: &mut Draw) {
             let other = any_record(records, draw);
             records.swap(at, other);
         }
-        3 | 4 => change_head(&mut records[at], draw),
-        5 | 6 => change_float(&mut records[at], draw),
-        7 => change_word(&mut records[at], draw),
-        8 => {
+        3..=5 => change_fields(&mut records[at], draw),
+        6 => {
             let place = any_place(records, draw);
             records.insert(place, vec![any_order(draw)]);
         }
-        9 => fill_queue(records, draw),
-        10 => records.truncate(at),
+        7 => fill_queue(records, draw),
+        8 => records.truncate(at),
         _ => move_start(records, draw),
     }
 }
@@ -72,7 +83,11 @@ fn change(records: &mut Vec<Words>, draw: &mut Draw) {
 /// Any record, or one of the first.
 fn any_record(records: &[Words], draw: &mut Draw) -> usize {
     let count = records.len() as u64;
-    let most = if draw.once_in(2) { count.min(16) } else { count };
+    let most = if draw.once_in(2) {
+        count.min(16)
+    } else {
+        count
+    };
     draw.below(most) as usize
 }
 

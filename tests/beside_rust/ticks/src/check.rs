@@ -82,9 +82,7 @@ impl Head {
             x.is_finite() && least <= x && x <= most
         };
         match self.kind {
-            1 if self.s == 1 => {
-                within(0, 0.0, 1e6) && float(body, 0) > 0.0 && within(2, 0.0, 1e6)
-            }
+            1 if self.s == 1 => within(0, 0.0, 1e6) && float(body, 0) > 0.0 && within(2, 0.0, 1e6),
             2 => within(0, -1e6, 1e6),
             3 => {
                 within(0, -1e6, 1e6)
