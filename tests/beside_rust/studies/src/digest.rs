@@ -20,13 +20,16 @@ pub fn make(seed: u64, count: u64, file: &str) -> io::Result<bool> {
     Ok(true)
 }
 
-/// A line for each tape: its output's digest and its worlds' digest.
-pub fn digest(file: &str) -> io::Result<bool> {
+/// A line for each of the first tapes: its output's digest and its worlds' digest.
+pub fn digest(file: &str, count: u64) -> io::Result<bool> {
     let tapes = fs::read(file)?;
     panic::set_hook(Box::new(|_| {}));
     let mut out = BufWriter::new(io::stdout().lock());
     let mut rest = &tapes[..];
-    while let Some((length, after)) = rest.split_first_chunk() {
+    for _ in 0..count {
+        let Some((length, after)) = rest.split_first_chunk() else {
+            break;
+        };
         let (tape, after) = after.split_at(u32::from_le_bytes(*length) as usize);
         rest = after;
         match panic::catch_unwind(|| digests(tape)) {

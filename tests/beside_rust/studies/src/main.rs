@@ -18,7 +18,7 @@ const USAGE: &str = "usage: studies [--seed N] [--tapes N] [--keep FOLDER] MODE,
   make FILE
       writes the random tapes into a file
   digest FILE
-      a line for each tape of such a file: digests of the Rust's output and of its worlds";
+      a line for each of the first N tapes of such a file: digests of the Rust's output and of its worlds";
 
 struct Words {
     plain: Vec<String>,
@@ -71,7 +71,7 @@ fn main() -> ExitCode {
         }
         ["answer"] => answer(),
         ["make", file] => digest::make(words.seed, words.tapes, file),
-        ["digest", file] => digest::digest(file),
+        ["digest", file] => digest::digest(file, words.tapes),
         _ => {
             eprintln!("{USAGE}");
             return ExitCode::from(2);
