@@ -103,14 +103,17 @@ pub fn compare(mut program: Command, seed: u64, count: u64, folder: &str) -> io:
 
 /// The first line that differs.
 fn show(rust: &[u8], ours: &[u8]) {
-    let line = |text: &[u8], at: usize| -> Option<String> {
-        let line = text.split(|&byte| byte == b'\n').nth(at)?;
-        Some(String::from_utf8_lossy(line).into_owned())
-    };
-    let differs = |at: &usize| line(rust, *at) != line(ours, *at);
-    let lines = rust.len().max(ours.len()) + 1;
-    if let Some(at) = (0..lines).find(differs) {
-        println!("  line {}, ours {:?}", at + 1, line(ours, at));
-        println!("  line {}, Rust {:?}", at + 1, line(rust, at));
+    let lines = |text| <[u8]>::split(text, |&byte| byte == b'\n');
+    let (mut rust_lines, mut our_lines) = (lines(rust), lines(ours));
+    for at in 1.. {
+        let (expected, line) = (rust_lines.next(), our_lines.next());
+        if expected != line || expected.is_none() {
+            let text = |line: Option<&[u8]>| {
+                String::from_utf8_lossy(line.unwrap_or(b"(none)")).into_owned()
+            };
+            println!("  line {at}, ours {}", text(line));
+            println!("  line {at}, Rust {}", text(expected));
+            return;
+        }
     }
 }
