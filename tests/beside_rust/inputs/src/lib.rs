@@ -90,7 +90,7 @@ impl Draw {
     }
 
     /// x or one of its six nearest neighbours.
-    fn near(&mut self, x: f64) -> f64 {
+    pub fn near(&mut self, x: f64) -> f64 {
         let steps = self.below(7).wrapping_sub(3);
         f64::from_bits(x.to_bits().wrapping_add(steps))
     }

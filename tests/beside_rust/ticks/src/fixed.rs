@@ -1,8 +1,8 @@
 //! The short tapes that the program of the gate replays.
 
-use crate::reach::Reach;
-use crate::record::Record;
-use crate::tapes::{self, Tape};
+use ticks::reach::Reach;
+use ticks::record::Record;
+use ticks::tapes::{self, Tape};
 
 /// In how many tapes of the list each branch is to be, if the random tapes reach it so often.
 const WANTED: u64 = 4;

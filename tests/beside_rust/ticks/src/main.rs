@@ -4,13 +4,10 @@ use std::fs;
 use std::io::{self, BufRead, Write};
 use std::process::{Command, ExitCode};
 
-mod answer;
+use ticks::tapes;
+
 mod fixed;
-mod player;
 mod program;
-mod reach;
-mod record;
-mod tapes;
 
 const USAGE: &str = "usage: ticks [--seed N] [--tapes N] [--keep FILE] MODE, where MODE is
   compare PROGRAM [WORD..]

@@ -4,9 +4,14 @@ use std::fmt::Write;
 
 use elevator_core::components::{CallDirection, ElevatorPhase, LineKind, ServiceMode};
 use elevator_core::door::DoorState;
-use elevator_core::study::{CarState, Motion, Study};
+use elevator_core::study::{CarState, Motion, Phase, Study};
 
 use crate::record::{Record, code_of};
+
+/// The ticks that a tape may make: tick 268,435,455 is the last.
+const TICKS: u64 = 1 << 28;
+/// The words of the log that the study lends.
+const LOG: usize = 2048;
 
 /// A car as records told it.
 #[derive(Debug, Clone)]
@@ -36,6 +41,16 @@ pub struct Player {
     pub lines: Vec<Line>,
     pub cars: Vec<Told>,
     pub riders: usize,
+    pub started: bool,
+    pub ticks: u64,
+}
+
+/// The numbers that a record names beside its own.
+#[derive(Default)]
+struct Named {
+    lines: Vec<usize>,
+    stops: Vec<usize>,
+    cars: Vec<usize>,
 }
 
 impl Player {
@@ -46,10 +61,12 @@ impl Player {
             lines: Vec::new(),
             cars: Vec::new(),
             riders: 0,
+            started: false,
+            ticks: 0,
         }
     }
 
-    /// Takes a record. Of the refusals only 9 and 10 are looked for.
+    /// Takes a record, unless one of the refusals 6 to 12 holds.
     pub fn take(&mut self, record: &Record) -> Answer {
         if let Some(number) = self.refusal(record) {
             return Answer::Refused(number);
@@ -91,8 +108,14 @@ impl Player {
                 self.study.rider(*number, *phase, *destination, *aboard);
                 self.riders = self.riders.max(number + 1);
             }
-            Record::Start => self.study.start(),
-            Record::Tick { dt } => return Answer::Ticked(self.study.tick(*dt)),
+            Record::Start => {
+                self.study.start();
+                self.started = true;
+            }
+            Record::Tick { dt } => {
+                self.ticks += 1;
+                return Answer::Ticked(self.study.tick(*dt));
+            }
             _ => self.order(record),
         }
         Answer::Accepted
@@ -122,17 +145,58 @@ impl Player {
         }
     }
 
+    /// The first refusal that the state brings, in the order of the numbers.
     fn refusal(&self, record: &Record) -> Option<u32> {
+        if self.out_of_turn(record) {
+            return Some(6);
+        }
+        if self.out_of_order(record) {
+            return Some(7);
+        }
+        if self.names_unloaded(record) {
+            return Some(8);
+        }
         match *record {
-            Record::Send { car, .. } => (!self.free(car)).then_some(9),
-            Record::Command { car, .. } => {
-                (self.study.car_state(car).commands.len() >= 8).then_some(10)
+            Record::Send { car, .. } if !self.free(car) => Some(9),
+            Record::Command { car, .. } if self.study.car_state(car).commands.len() >= 8 => {
+                Some(10)
             }
-            Record::Destination { car, .. } => {
-                (self.study.car_state(car).destinations.len() >= 8).then_some(10)
+            Record::Destination { car, .. }
+                if self.study.car_state(car).destinations.len() >= 8 =>
+            {
+                Some(10)
             }
+            Record::Tick { .. } if self.ticks >= TICKS => Some(11),
+            Record::Tick { .. } if LOG < self.cars.len() * (self.stops.len() + 14) + 1 => Some(12),
             _ => None,
         }
+    }
+
+    /// Refusal 6: kinds 1, 2, 3 and D after start, 5 to C before it.
+    fn out_of_turn(&self, record: &Record) -> bool {
+        match record {
+            Record::Rider { .. } => false,
+            _ => record.loads() == self.started,
+        }
+    }
+
+    /// Refusal 7: a number above the next unused one; for kinds 1 to 3 also one below it.
+    fn out_of_order(&self, record: &Record) -> bool {
+        match *record {
+            Record::Line { number, .. } => number != self.lines.len(),
+            Record::Stop { number, .. } => number != self.stops.len(),
+            Record::Car { number, .. } => number != self.cars.len(),
+            Record::Rider { number, .. } => number > self.riders,
+            _ => false,
+        }
+    }
+
+    /// Refusal 8: a car, stop or line named but not loaded.
+    fn names_unloaded(&self, record: &Record) -> bool {
+        let named = Named::by(record);
+        named.lines.iter().any(|&line| line >= self.lines.len())
+            || named.stops.iter().any(|&stop| stop >= self.stops.len())
+            || named.cars.iter().any(|&car| car >= self.cars.len())
     }
 
     /// Whether a send to the car is taken.
@@ -155,6 +219,11 @@ impl Player {
             .sum()
     }
 
+    /// How many hall calls stand.
+    pub fn waiting(&self) -> u32 {
+        self.calls(CallDirection::Up).count_ones() + self.calls(CallDirection::Down).count_ones()
+    }
+
     /// A tick's lines: its words, a line a car, the world's counters and calls.
     pub fn show(&self, words: &[u32], text: &mut String) {
         let shown: String = words.iter().map(|word| format!("{word:08x} ")).collect();
@@ -171,6 +240,39 @@ impl Player {
             number(self.calls(CallDirection::Down)),
         )
         .unwrap();
+    }
+}
+
+impl Named {
+    fn by(record: &Record) -> Self {
+        let mut named = Self::default();
+        match record {
+            Record::Line { serves, .. } => named.stops.extend(serves.iter().flatten()),
+            Record::Car { line, .. } => named.lines.push(*line),
+            Record::Rider {
+                phase,
+                destination,
+                aboard,
+                ..
+            } => {
+                named.stops.extend(destination);
+                named.cars.extend(aboard);
+                if let Phase::Boarding(car) | Phase::Riding(car) | Phase::Exiting(car) = phase {
+                    named.cars.push(*car);
+                }
+            }
+            Record::Send { car, stop, .. } | Record::Destination { car, stop } => {
+                named.cars.push(*car);
+                named.stops.push(*stop);
+            }
+            Record::Mode { car, .. }
+            | Record::ManualSpeed { car, .. }
+            | Record::Command { car, .. }
+            | Record::Enable { car, .. } => named.cars.push(*car),
+            Record::HallCall { stop, .. } => named.stops.push(*stop),
+            Record::Stop { .. } | Record::Tick { .. } | Record::Start => {}
+        }
+        named
     }
 }
 

@@ -5,9 +5,9 @@ use std::io::{self, Read, Write};
 use std::process::{Command, Stdio};
 use std::thread;
 
-use crate::answer::Answered;
-use crate::reach::Reach;
-use crate::tapes::{self, Tape};
+use ticks::answer::Answered;
+use ticks::reach::Reach;
+use ticks::tapes::{self, Tape};
 
 /// Tapes that the program is given at once.
 const BATCH: u64 = 1000;

@@ -5,9 +5,9 @@ use elevator_core::door::DoorCommand;
 use elevator_core::study::{Motion, Phase};
 
 /// 65,535: no list, no destination.
-const NONE: u32 = 0xffff;
+pub const NONE: u32 = 0xffff;
 /// 255: no car.
-const NO_CAR: u32 = 0xff;
+pub const NO_CAR: u32 = 0xff;
 
 pub const MODES: [ServiceMode; 5] = [
     ServiceMode::Normal,
@@ -220,7 +220,7 @@ impl Record {
         )
     }
 
-    /// The next record of a tape whose records have the right form; none at its end.
+    /// The next record of words that `check` takes; none at their end.
     pub fn read(words: &mut impl Iterator<Item = u32>) -> Option<Self> {
         let head = words.next()?;
         let mut word = || words.next().expect("a body is cut short");

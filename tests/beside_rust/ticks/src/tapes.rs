@@ -35,6 +35,8 @@ pub struct Size {
     pub stops: u64,
     /// One tape in so many has 16 cars, one 64 stops, one 128 riders, one 8 lines.
     pub full_in: u64,
+    /// So many times rarer than usual an order is one that may be refused.
+    pub patience: u64,
 }
 
 pub const LONG: Size = Size {
@@ -42,6 +44,7 @@ pub const LONG: Size = Size {
     cars: 5,
     stops: 8,
     full_in: 25,
+    patience: 1,
 };
 
 pub const SHORT: Size = Size {
@@ -49,6 +52,25 @@ pub const SHORT: Size = Size {
     cars: 2,
     stops: 4,
     full_in: 1_000_000,
+    patience: 1,
+};
+
+/// 1 to 16 cars, 1 to 64 stops.
+pub const WIDE: Size = Size {
+    ticks: [5, 120],
+    cars: 16,
+    stops: 64,
+    full_in: 25,
+    patience: 4,
+};
+
+/// Thousands of ticks.
+pub const ENDLESS: Size = Size {
+    ticks: [1000, 7000],
+    cars: 4,
+    stops: 10,
+    full_in: 50,
+    patience: 100_000,
 };
 
 struct Maker {
@@ -220,7 +242,7 @@ impl Maker {
         self.dt = self.tick_length();
         self.circle = self.circumference();
         let stops = match self.scale {
-            Scale::Tiny => 3 * self.size.stops,
+            Scale::Tiny => (3 * self.size.stops).min(64),
             _ => self.size.stops,
         };
         for number in 0..self.count(stops, 64) {
@@ -422,7 +444,7 @@ impl Maker {
             .find(|&n| self.player.free(n));
         match free {
             Some(car) => self.send(car),
-            None if self.draw.once_in(300) => self.send(car),
+            None if self.draw.once_in(300 * self.size.patience) => self.send(car),
             None => {}
         }
     }
@@ -467,7 +489,8 @@ impl Maker {
     /// A door command; now and then as many as fit.
     fn command(&mut self, car: usize) {
         let held = self.player.study.car_state(car).commands.len() as u64;
-        let room = if self.draw.once_in(200) { 9 } else { 8 } - held.min(8);
+        let past = self.draw.once_in(200 * self.size.patience);
+        let room = if past { 9 } else { 8 } - held.min(8);
         let count = match self.draw.below(12) {
             0 => room,
             1 | 2 => self.draw.below(4).min(room),
@@ -503,7 +526,7 @@ impl Maker {
 
     fn destination(&mut self, car: usize) {
         let state = self.player.study.car_state(car);
-        let room = state.destinations.len() < 8 || self.draw.once_in(20);
+        let room = state.destinations.len() < 8 || self.draw.once_in(20 * self.size.patience);
         if room {
             let stop = match state.target {
                 Some(stop) if self.draw.once_in(2) => stop,
