@@ -21,7 +21,10 @@ const ROUNDS: usize = 25;
 
 fn main() {
     #[cfg(feature = "records")]
-    if std::env::args().nth(1).is_some_and(|word| word == "once") {
+    if std::env::args()
+        .nth(1)
+        .is_some_and(|word| word == "once" || word == "tape")
+    {
         return records::all();
     }
     println!(

@@ -1,6 +1,7 @@
 //! The record call's ticks beside the Rust's two `run`s, and the whole study beside the Rust's.
 
 use std::fs::{self, File};
+use std::io::Write;
 use std::process::{Command, Stdio};
 use std::time::Instant;
 
@@ -24,16 +25,22 @@ const STUDY_TICKS: usize = 200_000;
 const STUDY_ROUNDS: usize = 5;
 
 /// With no word: the record calls. With `OURS .. -- RUST ..`: also the studies, by these two programs. With `once N`: each side
-/// once on world N, for a count of instructions.
+/// once on world N, for a count of instructions. With `tape N TICKS`: writes world N's tape.
 pub fn all() {
     let words: Vec<String> = std::env::args().skip(1).collect();
-    if words.first().is_some_and(|word| word == "once") {
-        return once(words[1].parse().unwrap());
+    match words.iter().map(String::as_str).collect::<Vec<_>>()[..] {
+        ["once", world] => return once(world.parse().unwrap()),
+        ["tape", world, ticks] => return write(world.parse().unwrap(), ticks.parse().unwrap()),
+        _ => measure(),
     }
-    measure();
     if let Some(at) = words.iter().position(|word| word == "--") {
         measure_studies(&words[..at], &words[at + 1..]);
     }
+}
+
+fn write(number: usize, ticks: usize) {
+    let bytes = worlds::all()[number].tape(ticks).bytes();
+    std::io::stdout().write_all(&bytes).unwrap();
 }
 
 fn once(number: usize) {
@@ -49,7 +56,7 @@ fn once(number: usize) {
 /// The ticks of every world: the record call by value, lent, the Rust's two runs.
 fn measure() {
     println!(
-        "\n{:32} {:>8} {:>8} {:>8} {:>6} {:>6}",
+        "\n{:36} {:>8} {:>8} {:>8} {:>6} {:>6}",
         "a tick, by the record call", "ours ns", "lent ns", "Rust ns", "ratio", "lent"
     );
     for world in worlds::all() {
@@ -66,7 +73,7 @@ fn measure() {
         }
         let [ours, lent, rust] = best.map(|time| time / TICKS as f64);
         println!(
-            "{:32} {ours:8.0} {lent:8.0} {rust:8.0} {:6.2} {:6.2}",
+            "{:36} {ours:8.0} {lent:8.0} {rust:8.0} {:6.2} {:6.2}",
             world.name(),
             ours / rust,
             lent / rust
@@ -112,7 +119,7 @@ fn two_runs(tape: &Tape, world: World) -> u64 {
 /// The study of each world's long tape, ours and the Rust's, each as a program of its own.
 fn measure_studies(ours: &[String], rust: &[String]) {
     println!(
-        "\n{:32} {:>8} {:>8} {:>6} {:>11}",
+        "\n{:36} {:>8} {:>8} {:>6} {:>11}",
         "a tick of the whole study", "ours ns", "Rust ns", "ratio", "words/tick"
     );
     let file = std::env::temp_dir().join(format!("bench-{}.tape", std::process::id()));
@@ -126,7 +133,7 @@ fn measure_studies(ours: &[String], rust: &[String]) {
         }
         let [ours, rust] = best.map(|time| time / STUDY_TICKS as f64);
         println!(
-            "{:32} {ours:8.0} {rust:8.0} {:6.2} {:11.2}",
+            "{:36} {ours:8.0} {rust:8.0} {:6.2} {:11.2}",
             world.name(),
             ours / rust,
             tape.log_words as f64 / STUDY_TICKS as f64
