@@ -4,7 +4,7 @@ use std::env;
 use std::path::Path;
 
 fn main() {
-    if env::var("CARGO_FEATURE_TICKS").is_ok() {
+    if env::var("CARGO_FEATURE_RECORDS").is_ok() {
         let folder =
             Path::new(&env::var("CARGO_MANIFEST_DIR").unwrap()).join("../target/staticlib");
         println!("cargo:rustc-link-search=native={}", folder.display());

@@ -1,4 +1,4 @@
-//! Nanoseconds a call, ours and the Rust's, on the same arguments in the same run.
+//! Nanoseconds a call, a tick and a tick of the whole study, ours and the Rust's, in the same run.
 
 use std::hint::black_box;
 use std::time::Instant;
@@ -6,9 +6,11 @@ use std::time::Instant;
 use beside_rust::inputs::Draw;
 use beside_rust::ours::{self, MovementResult};
 
+#[cfg(feature = "records")]
+mod records;
 mod rust;
-#[cfg(feature = "ticks")]
-mod ticks;
+#[cfg(feature = "records")]
+mod worlds;
 
 /// Argument tuples of a formula.
 const TUPLES: usize = 8192;
@@ -18,6 +20,13 @@ const REPEATS: usize = 12;
 const ROUNDS: usize = 25;
 
 fn main() {
+    #[cfg(feature = "records")]
+    if std::env::args()
+        .nth(1)
+        .is_some_and(|word| word == "once" || word == "tape")
+    {
+        return records::all();
+    }
     println!(
         "{:28} {:>8} {:>8} {:>6}",
         "formula", "ours ns", "Rust ns", "ratio"
@@ -25,8 +34,8 @@ fn main() {
     motion();
     #[cfg(feature = "beside")]
     beside();
-    #[cfg(feature = "ticks")]
-    ticks::measure();
+    #[cfg(feature = "records")]
+    records::all();
 }
 
 /// Times one formula and prints its line.

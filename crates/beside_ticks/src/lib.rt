@@ -1,152 +1,88 @@
-// Ticks for the bench: 16 cars and 64 stops, a line or a loop, built by records' functions, run and summed up.
+// Record calls for the bench: the first records of a tape, from the empty world on, and a sum over what they leave.
 ghost use mathlib.Core.Path.{_≡_};
-ghost use lib.ListN.{length};
 ghost use Rattle.float.specs.Float.{numberBits};
+ghost use Rattle.record.specs.Record.{usedOf, writtenOf};
 ghost use Rattle.steps.specs.Steps.{plus};
 ghost use Rattle.beside_ticks.specs.Bench as Bench;
-use changes::start;
-use loads::load_car;
-use loads::load_line;
-use loads::load_stop;
-use orders::send;
+use lent::turn;
+use record::Answer;
+use record::record;
 use std::num::wrapping_add_u64;
 use world::Car;
-use world::LineKind;
-use world::Motion;
 use world::World;
 use world::empty::empty;
 
-// A stop every 4 m from 0 on.
-fn with_stops(world: World) -> World
-    ensures { λ r. ⌜ r ≡ Bench.stopsTo world 64 ⌝ }
-{
-    let mut next = world;
-    let mut position = 0.0f64;
-    let mut i: u8 = 0;
-    while i < 64 {
-        let loaded = load_stop(next, i, position);
-        next = loaded.world;
-        position = position + 4.0;
-        i += 1;
-    }
-    next
-}
-
-// The numbers 0 to 63.
-fn every_stop() -> [u8; 64]
-    ensures { λ r. ⌜ r ≡ Bench.numbersTo 64 ⌝ }
-{
-    let mut stops = [0u8; 64];
-    let mut i: usize = 0;
-    while i < 64 {
-        stops[i] = i as u8;
-        i += 1;
-    }
-    stops
-}
-
-// The line, and on a loop its list of all stops.
-fn with_line(world: World, on_loop: bool) -> World
-    ensures { λ r. ⌜ r ≡ Bench.withLine world «on_loop» ⌝ }
-{
-    if on_loop {
-        let kind = LineKind::Loop {
-            circumference: 256.0,
-            min_headway: 2.0,
-        };
-        let loaded = load_line(world, 0, kind, true, 64, every_stop());
-        return loaded.world;
-    }
-    let loaded = load_line(world, 0, LineKind::Linear, false, 0, [0u8; 64]);
-    loaded.world
-}
-
-// Where car i stands: 16 m apart on a loop; else below, and every other one above.
-fn place(i: u8, on_loop: bool, sixteenth: f64) -> f64
-    ensures { λ r. ⌜ r ≡ Bench.place i «on_loop» sixteenth ⌝ }
-{
-    if on_loop {
-        return sixteenth * 16.0;
-    }
-    if i % 2 == 0 {
-        return sixteenth * 0.125;
-    }
-    252.0 - sixteenth * 0.125
-}
-
-// Where car i is sent: to the next stop on a loop; else to the other end.
-fn sent_to(i: u8, on_loop: bool) -> u8
-    ensures { λ r. ⌜ r ≡ Bench.target i «on_loop» ⌝ }
-{
-    if on_loop {
-        return i % 16 * 4 + 1;
-    }
-    if i % 2 == 0 { 63 } else { 0 }
-}
-
-fn with_cars(world: World, on_loop: bool) -> World
-    ensures { λ r. ⌜ r ≡ Bench.carsTo world «on_loop» 16 ⌝ }
-{
-    let mut next = world;
-    let mut sixteenth = 0.0f64;
-    let mut i: u8 = 0;
-    while i < 16 {
-        let motion = Motion {
-            position: place(i, on_loop, sixteenth),
-            velocity: 0.0,
-            max_speed: 2.5,
-            acceleration: 1.0,
-            deceleration: 1.0,
-            inspection_speed_factor: 0.5,
-        };
-        let loaded = load_car(next, i, 0, motion, 5, 10);
-        next = loaded.world;
-        sixteenth = sixteenth + 1.0;
-        i += 1;
-    }
-    next
-}
-
-fn with_sends(world: World, on_loop: bool) -> World
-    ensures { λ r. ⌜ r ≡ Bench.sendsTo world «on_loop» 16 ⌝ }
-{
-    let mut next = world;
-    let mut i: u8 = 0;
-    while i < 16 {
-        let sent = send(next, i, sent_to(i, on_loop), false);
-        next = sent.world;
-        i += 1;
-    }
-    next
-}
-
-fn built(on_loop: bool) -> World
-    ensures { λ r. ⌜ r ≡ Bench.built «on_loop» ⌝ }
-{
-    let loaded = with_cars(with_line(with_stops(empty()), on_loop), on_loop);
-    let started = start(loaded);
-    with_sends(started.world, on_loop)
-}
-
-// A world, and the words that its ticks wrote.
-struct Ended {
+// Where the records ended: the world, the words of the tape that they used, the log words that they wrote.
+struct Played {
     world: World,
-    words: u64,
+    used: usize,
+    written: u64,
 }
 
-fn run(world: World, log: &mut [u32], ticks: u64, dt: f64) -> Ended
-    ensures { λ r. ⌜ (r .world ≡ Bench.worldTo world dt ticks) × (r .words ≡ Bench.wordsTo world dt (length (now (log .entry))) ticks) ⌝ }
+fn used_of(answer: Answer) -> usize
+    ensures { λ r. ⌜ r ≡ usedOf answer ⌝ }
 {
-    let mut next = world;
-    let mut words: u64 = 0;
+    match answer {
+        Answer::Accepted { used, written: _ } => used,
+        Answer::Refused(_) => 0,
+    }
+}
+
+fn written_of(answer: Answer) -> usize
+    ensures { λ r. ⌜ r ≡ writtenOf answer ⌝ }
+{
+    match answer {
+        Answer::Accepted { used: _, written } => written,
+        Answer::Refused(_) => 0,
+    }
+}
+
+// By the call that takes the world by value.
+fn by_value(words: &[u32], log: &mut [u32], records: u64) -> Played
+    ensures { λ r. ⌜ Bench.Reached (Bench.playedTo (now (words .entry)) (now (log .entry)) records) (r .world) (now (log .exit)) (r .used) (r .written) ⌝ }
+{
+    let end = words.len();
+    let mut world = empty();
+    let mut used: usize = 0;
+    let mut written: u64 = 0;
     let mut i: u64 = 0;
-    while i < ticks {
-        let ran = tick::tick(next, log, dt);
-        next = ran.world;
-        words = wrapping_add_u64(words, ran.at as u64);
+    while i < records {
+        let made = record(world, &words[used..end], log);
+        world = made.world;
+        let answer = made.answer;
+        used += used_of(answer);
+        written = wrapping_add_u64(written, written_of(answer) as u64);
         i += 1;
     }
-    Ended { world: next, words }
+    Played {
+        world,
+        used,
+        written,
+    }
+}
+
+// By the call that is lent the world.
+fn by_lending(words: &[u32], log: &mut [u32], records: u64) -> Played
+    ensures { λ r. ⌜ Bench.Reached (Bench.playedTo (now (words .entry)) (now (log .entry)) records) (r .world) (now (log .exit)) (r .used) (r .written) ⌝ }
+{
+    let end = words.len();
+    let mut world = empty();
+    let mut used: usize = 0;
+    let mut written: u64 = 0;
+    let mut i: u64 = 0;
+    while i < records {
+        let made = turn(world, &words[used..end], log);
+        world = made.world;
+        let answer = made.answer;
+        used += used_of(answer);
+        written = wrapping_add_u64(written, written_of(answer) as u64);
+        i += 1;
+    }
+    Played {
+        world,
+        used,
+        written,
+    }
 }
 
 // A number's bits; 0 for a NaN, of which none comes about.
@@ -174,15 +110,30 @@ fn sum_of_cars(cars: [Car; 16]) -> u64
     total
 }
 
-// Runs so many ticks from the beginning; answers the sum of the cars' bits, the moves and the log words.
+// The sum of the cars' bits, the moves and the log words.
+fn sum_of(played: Played) -> u64
+    ensures { λ r. ⌜ r ≡ Bench.sumOf (played .world) (played .written) ⌝ }
+{
+    let world = played.world;
+    let cars = world.cars;
+    let moves = wrapping_add_u64(world.total_moves, played.written);
+    wrapping_add_u64(sum_of_cars(cars), moves)
+}
+
+// So many records of the tape by the by-value call.
 #[no_mangle]
-pub extern "C" fn bench_ticks(on_loop: bool, ticks: u64, dt: f64) -> u64
-    ensures { λ r. ⌜ r ≡ Bench.benchTicks «on_loop» ticks dt ⌝ }
+pub extern "C" fn bench_records(words: &[u32], records: u64) -> u64
+    ensures { λ r. ⌜ r ≡ Bench.benchRecords (now (words .entry)) records ⌝ }
 {
     let mut log = [0u32; 2048];
-    let ran = run(built(on_loop), &mut log, ticks, dt);
-    let world = ran.world;
-    let cars = world.cars;
-    let moves = wrapping_add_u64(world.total_moves, ran.words);
-    wrapping_add_u64(sum_of_cars(cars), moves)
+    sum_of(by_value(words, &mut log, records))
+}
+
+// The same by the lent call.
+#[no_mangle]
+pub extern "C" fn bench_lent_records(words: &[u32], records: u64) -> u64
+    ensures { λ r. ⌜ r ≡ Bench.benchRecords (now (words .entry)) records ⌝ }
+{
+    let mut log = [0u32; 2048];
+    sum_of(by_lending(words, &mut log, records))
 }
