@@ -128,8 +128,8 @@ fn measure_studies(ours: &[String], rust: &[String]) {
         fs::write(&file, tape.bytes()).unwrap();
         let mut best = [f64::INFINITY; 2];
         for _ in 0..STUDY_ROUNDS {
-            timed(&mut best[0], || studied(ours, &file));
-            timed(&mut best[1], || studied(rust, &file));
+            best[0] = best[0].min(studied(ours, &file));
+            best[1] = best[1].min(studied(rust, &file));
         }
         let [ours, rust] = best.map(|time| time / STUDY_TICKS as f64);
         println!(
@@ -142,8 +142,9 @@ fn measure_studies(ours: &[String], rust: &[String]) {
     fs::remove_file(&file).unwrap();
 }
 
-/// A study of the tape by a program, its text thrown away.
-fn studied(program: &[String], tape: &std::path::Path) {
+/// A study of the tape by a program, its text thrown away: nanoseconds of the processor.
+fn studied(program: &[String], tape: &std::path::Path) -> f64 {
+    let before = children_time();
     let status = Command::new(&program[0])
         .args(&program[1..])
         .stdin(File::open(tape).unwrap())
@@ -151,4 +152,16 @@ fn studied(program: &[String], tape: &std::path::Path) {
         .status()
         .unwrap();
     assert!(status.success(), "{program:?}: {status}");
+    children_time() - before
+}
+
+/// What the programs that were run have used of the processor, in steps of 10 ms.
+fn children_time() -> f64 {
+    let stat = fs::read_to_string("/proc/self/stat").unwrap();
+    let fields: Vec<&str> = stat[stat.rfind(')').unwrap()..].split(' ').collect();
+    let ticks: f64 = fields[14..16]
+        .iter()
+        .map(|n| n.parse::<f64>().unwrap())
+        .sum();
+    ticks * 1e7
 }
