@@ -19,7 +19,7 @@ use Rattle.study_text.specs.Text.{wordsOf}
 use Rattle.study_text.proofs.Putting.{take-min}
 use Rattle.play.specs.declared.Step.{Step}
 use Rattle.play.specs.Play.{told, countsAfter, ending, Stepped}
-use Rattle.pieces.specs.Pieces.{Playing, after, nextRecord, whole, goes, playTo, ends, closed, close, advanced, playing, Gives}
+use Rattle.pieces.specs.Pieces.{Playing, after, nextRecord, ready, goes, playTo, ends, closed, close, advanced, playing, Gives}
 use Rattle.pieces.specs.Parts.{Reached, ClosesBy, Closes}
 use Rattle.pieces.specs.declared.Study.{Study}
 use Rattle.pieces.specs.declared.Played.{Played}
@@ -160,7 +160,7 @@ module _ (ended : Bool) (piece log : List ℕ) (s : Step) (from : ℕ) where
       → Stepped met (s .counts) out (s .at) s′ out′
       → Going ended p₀ piece out₀ log′ out′ s′ (from + s′ .used)
   turn p₀ out₀ out log′ out′ s′ g e el st =
-      let place : s .at < 32768 = ltb-true (s .at) 32768 (and-second (whole ended (length (wordsOf piece) - from)) (ltb (s .at) 32768) (and-second (not (s .refused)) _ e)) in
+      let place : s .at < 32768 = ltb-true (s .at) 32768 (and-second (ready ended (length (wordsOf piece) - from)) (ltb (s .at) 32768) (and-second (not (s .refused)) _ e)) in
       let lent : length (met .log) ≡ 2048 = kept-there .size ∙ g .lent in
       let short : length (told (met .answer) (met .log)) ≤ 18432 = told-length (met .answer) (met .log) lent in
       let buffer : length out ≡ 65536 = wrote-length (g .wrote) ∙ g .buffer in

@@ -29,7 +29,7 @@ pub record Playing : Type 0 where
   -- the report or a refusal is printed
   pub over : Bool
 
--- the record that the bytes at hand begin with
+-- after a record that gave this
 abbrev pub after : Playing → Outcome → Playing
 after p o = record {
   world = o .world;
@@ -40,21 +40,22 @@ after p o = record {
   over = not (isAccepted (o .answer));
 }
 
+-- the record that the bytes at hand begin with
 unfoldable pub nextRecord : Playing → Playing
 nextRecord p = after p (recordOf (p .world) (wordsOf (p .bytes)) (p .log))
 
--- any record is whole with 69 words, a line's with 64 stops; at the input's end no more will come
-abbrev pub whole : Bool → ℕ → Bool
-whole ended words = leb 69 words || ended && ltb 0 words
+-- a record can be taken: any is whole with 69 words, a line's with 64 stops; or the input has ended, and what there is must do
+abbrev pub ready : Bool → ℕ → Bool
+ready ended words = leb 69 words || ended && ltb 0 words
 
--- the buffer of 65,536 bytes has room for one more record's text: 2,048 lines of 9 bytes at most
+-- the buffer of 65,536 bytes has room for one more record's text, 2,048 lines of 9 bytes at most, or for the report's line
 abbrev pub hasRoom : ℕ → Bool
 hasRoom at = ltb at 32768
 
 abbrev pub goes : Bool → Bool → ℕ → ℕ → Bool
-goes ended over words at = not over && (whole ended words && hasRoom at)
+goes ended over words at = not over && (ready ended words && hasRoom at)
 
--- records are played as long as the next one is whole and has room. `more` bounds them.
+-- records are played as long as the next one is ready and its text has room. `more` bounds them.
 unfoldable pub playTo : ℕ → Bool → Playing → Playing
 playTo zero ended p = p
 playTo (suc more) ended p = cond (goes ended (p .over) (length (wordsOf (p .bytes))) (length (p .text))) (playTo more ended (nextRecord p)) p

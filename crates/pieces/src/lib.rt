@@ -42,7 +42,7 @@ pub fn begin() -> Study
     }
 }
 
-// Whether a record is played next: it is whole with 69 words, and at the input's end no more will come; its text has room.
+// Whether a record is played next: with 69 words any is whole, and where the input has ended what there is must do; its text must have room.
 fn goes(ended: bool, over: bool, words: usize, at: usize) -> bool
     ensures { λ r. ⌜ r ≡ goesOn ended over words at ⌝ }
 {
@@ -55,7 +55,7 @@ struct Played {
     from: usize,
 }
 
-// The records of the piece, whose words these are, as long as the next one is whole and its text has room.
+// The records of the piece, whose words these are, as long as the next one is ready and its text has room.
 fn play_words(
     study: Study,
     piece: &[u8],

@@ -17,12 +17,12 @@ use Rattle.record.proofs.Answering.{first-condition}
 use Rattle.report.specs.declared.Counts.{Counts}
 use Rattle.study_text.specs.Text.{word, wordsOf}
 use Rattle.play.specs.Play.{told, countsAfter, ending}
-use Rattle.pieces.specs.Pieces.{Playing, after, nextRecord, whole, hasRoom, goes, playTo, ends, closed, close, advanced, playing, fresh}
+use Rattle.pieces.specs.Pieces.{Playing, after, nextRecord, ready, hasRoom, goes, playTo, ends, closed, close, advanced, playing, fresh}
 use Rattle.pieces.proofs.Sizes.{words-drop, words-few}
 use Rattle.pieces.proofs.Going.{and-first, and-second, not-true}
 use Rattle.whole_tape.specs.Study.{goesOn, printed, studyText}
-use Rattle.whole_tape.specs.WholeTape.{Ignored, stillPrints, begun, Round, given, emptied, round, afterRounds, wroteOut, allRead, InOrder, InPieces}
-use Rattle.whole_tape.proofs.Ignoring.{ignored}
+use Rattle.whole_tape.specs.WholeTape.{Longest, stillPrints, begun, Round, given, emptied, round, afterRounds, wroteOut, allRead, InOrder, Rounds, Over}
+use Rattle.whole_tape.proofs.Ignoring.{longest}
 
 -- ---- words of joined bytes
 
@@ -39,13 +39,13 @@ words-joined (x ∷ y ∷ z ∷ u ∷ b) m = rw (four-more (length (wordsOf b)))
 
 -- the record call reads no further than a record
 record-joined : (w : World) (ws vs log : List ℕ) → 69 ≤ length ws → recordOf w (ws ++ vs) log ≡ recordOf w ws log
-unfolding recordOf Ignored
-record-joined w ws vs log h = rw (ignored ws vs h)
+unfolding recordOf Longest
+record-joined w ws vs log h = rw (longest ws vs h)
 
 -- ---- as many turns as there are words are enough
 
 module _ (w : World) (ws log : List ℕ) where
-  kept : Kept w ws log (recordOf w ws log)
+  pub kept : Kept w ws log (recordOf w ws log)
   unfolding FirstCondition
   kept = first-condition w ws log
 
@@ -71,7 +71,7 @@ enough (suc n) (suc m) w c log b h g =
 -- ---- a record
 
 -- the words at hand begin with the record that all begin with
-same-record : (ended : Bool) (p : Playing) (more : List ℕ) → whole ended (length (wordsOf (p .bytes))) ≡ true → (ended ≡ true → more ≡ [])
+same-record : (ended : Bool) (p : Playing) (more : List ℕ) → ready ended (length (wordsOf (p .bytes))) ≡ true → (ended ≡ true → more ≡ [])
     → recordOf (p .world) (wordsOf (p .bytes ++ more)) (p .log) ≡ recordOf (p .world) (wordsOf (p .bytes)) (p .log)
 same-record ended p more e h = go (leb 69 (length (wordsOf (p .bytes)))) refl
   where
@@ -79,7 +79,7 @@ same-record ended p more e h = go (leb 69 (length (wordsOf (p .bytes)))) refl
     go true k = rw words-joined (record-joined (p .world) (wordsOf (p .bytes)) _ (p .log) (leb-true 69 (length (wordsOf (p .bytes))) k))
     go false k = let n : more ≡ [] = h (and-first ended _ (rw k at e)) in rw (n, append-nil)
 
-some-words : (ended : Bool) (n : ℕ) → whole ended n ≡ true → 0 < n
+some-words : (ended : Bool) (n : ℕ) → ready ended n ≡ true → 0 < n
 some-words ended n e = go (leb 69 n) refl
   where
     go : (b : Bool) → leb 69 n ≡ b → 0 < n
@@ -115,7 +115,7 @@ next-prints : (ended : Bool) (p : Playing) (more : List ℕ)
 unfolding stillPrints nextRecord
 next-prints ended p more e h =
     let stands : p .over ≡ false = not-true (p .over) (and-first (not (p .over)) _ e) in
-    let w : whole ended (length (wordsOf (p .bytes))) ≡ true = and-first (whole ended (length (wordsOf (p .bytes)))) _ (and-second (not (p .over)) _ e) in
+    let w : ready ended (length (wordsOf (p .bytes))) ≡ true = and-first (ready ended (length (wordsOf (p .bytes)))) _ (and-second (not (p .over)) _ e) in
     let some : 0 < length (wordsOf (p .bytes)) = some-words ended (length (wordsOf (p .bytes))) w in
     let o = recordOf (p .world) (wordsOf (p .bytes)) (p .log) in
     let k = kept (p .world) (wordsOf (p .bytes)) (p .log) in
@@ -189,12 +189,14 @@ over-prints : (p : Playing) (more : List ℕ) → p .over ≡ true → p .text �
 unfolding stillPrints
 over-prints p more o t = rw (o, t)
 
-pub in-pieces : InPieces
-in-pieces = record {
-  rounds = λ rs more h. rounds-print begun rs more h ∙ begun-prints (allRead rs ++ more);
-  over = λ rs more h o.
-      sym (append-nil (wroteOut begun rs))
-      ∙ ap (λ (t : List ℕ). wroteOut begun rs ++ t) (sym (over-prints (afterRounds begun rs) more o (no-text begun rs refl)))
-      ∙ rounds-print begun rs more h
-      ∙ begun-prints (allRead rs ++ more);
-}
+pub all-rounds : Rounds
+unfolding Rounds
+all-rounds rs more h = rounds-print begun rs more h ∙ begun-prints (allRead rs ++ more)
+
+pub all-over : Over
+unfolding Over
+all-over rs more h o =
+    sym (append-nil (wroteOut begun rs))
+    ∙ ap (λ (t : List ℕ). wroteOut begun rs ++ t) (sym (over-prints (afterRounds begun rs) more o (no-text begun rs refl)))
+    ∙ rounds-print begun rs more h
+    ∙ begun-prints (allRead rs ++ more)

@@ -1,3 +1,4 @@
 pub mod Ignoring
 pub mod Joining
+pub mod Ending
 pub mod Computed

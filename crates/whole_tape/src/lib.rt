@@ -1,12 +1,12 @@
 // What the study prints of a whole tape, and that its pieces come to it.
 ghost use mathlib.Core.Path.{_≡_};
 ghost use mathlib.Core.Bool.{true};
-ghost use Rattle.whole_tape.specs.WholeTape.{Ignored, InPieces};
+ghost use Rattle.whole_tape.specs.WholeTape.{Ignored, Longest, InPieces};
 ghost use Rattle.whole_tape.specs.Example.{PaperTape};
 
 // Carries the claims.
 pub fn whole_tape() -> bool
-    ensures { λ r. ⌜ (r ≡ true) × Ignored × InPieces × PaperTape ⌝ }
+    ensures { λ r. ⌜ (r ≡ true) × Ignored × Longest × InPieces × PaperTape ⌝ }
 {
     true
 }
