@@ -49,7 +49,7 @@ module _ (w : World) (ws log : List ℕ) where
   unfolding FirstCondition
   kept = first-condition w ws log
 
-fewer : (b : List ℕ) (used : ℕ) → 0 < used → used ≤ length (wordsOf b) → length (wordsOf (drop (4 * used) b)) < length (wordsOf b)
+pub fewer : (b : List ℕ) (used : ℕ) → 0 < used → used ≤ length (wordsOf b) → length (wordsOf (drop (4 * used) b)) < length (wordsOf b)
 fewer b used p h = rw (words-drop b used (4 * used) refl, length-drop) (omega arith)
 
 goes-same : (a : Answer) (s t : List ℕ) → (isAccepted a ≡ true → s ≡ t) → goesOn a s ≡ goesOn a t

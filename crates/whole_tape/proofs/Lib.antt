@@ -2,3 +2,4 @@ pub mod Ignoring
 pub mod Joining
 pub mod Ending
 pub mod Computed
+pub mod Certifying

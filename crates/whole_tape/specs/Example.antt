@@ -3,7 +3,10 @@ use mathlib.Core.Path.{_≡_}
 use mathlib.Core.List.{List, [], _∷_, _++_}
 use Prim.Native.Nat.{ℕ, _/_, _%_, _^_}
 use Rattle.study_text.specs.Text.{text, newline}
+use lib.ListN.{length}
+use Rattle.world.specs.World.{emptyWorld}
 use Rattle.whole_tape.specs.Study.{studyText}
+use Rattle.whole_tape.specs.Certified.{madeOf, AllAccepted}
 
 -- a word's bytes, the lowest first
 abbrev pub littleEndian : List ℕ → List ℕ
@@ -38,3 +41,9 @@ paperOutput =
 
 unfoldable pub PaperTape : Type 0
 PaperTape = studyText (littleEndian paperTape) ≡ paperOutput
+
+-- it is one of the tapes that `Certified` is about: ten calls, each accepted, and no byte left
+pub record PaperCalls : Type 0 where
+  pub ten : length (madeOf (littleEndian paperTape) .calls) ≡ 10
+  pub accepted : AllAccepted emptyWorld (madeOf (littleEndian paperTape) .calls)
+  pub none : madeOf (littleEndian paperTape) .left ≡ []

@@ -1,3 +1,4 @@
 pub mod Study
 pub mod WholeTape
+pub mod Certified
 pub mod Example
