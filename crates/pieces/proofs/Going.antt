@@ -8,6 +8,7 @@ use borrow.Author.Tests.{ltb-true}
 use lib.Dec.{ltb, eqb}
 use lib.ListN.{length, take, drop, length-append, length-drop, length-take}
 use lib.Seq.{take-all, drop-drop}
+use Rattle.float.proofs.Cases.{and-left, and-right}
 use Rattle.world.specs.declared.World.{World}
 use Rattle.log.specs.Log.{Wrote}
 use Rattle.log.proofs.Writing.{wrote-none, wrote-length, wrote-fits, also}
@@ -77,17 +78,6 @@ going ended piece out log s e l o = record {
 
 -- ---- one more record
 
-pub and-first : (a b : Bool) → (a && b) ≡ true → a ≡ true
-and-first true b h = refl
-and-first false b h = h
-
-pub and-second : (a b : Bool) → (a && b) ≡ true → b ≡ true
-and-second true b h = h
-and-second false b h = absurd (false-true h)
-  where
-    false-true : false ≡ true → ⊥
-    false-true e = let z : _≡_ {A = ℕ} 0 1 = ap bit e in omega arith
-
 pub not-true : (b : Bool) → not b ≡ true → b ≡ false
 not-true true h = sym h
 not-true false h = refl
@@ -136,7 +126,7 @@ module _ (ended : Bool) (piece log : List ℕ) (s : Step) (from : ℕ) where
   kept-there = first-condition (s .world) (drop from (wordsOf piece)) log
 
   stands : goes ended (s .refused) (length (wordsOf piece) - from) (s .at) ≡ true → s .refused ≡ false
-  stands e = not-true (s .refused) (and-first (not (s .refused)) _ e)
+  stands e = not-true (s .refused) (and-left (not (s .refused)) _ e)
 
   -- fewer words are left, or the turn was the last
   pub fewer : (s′ : Step) (out out′ : List ℕ)
@@ -160,7 +150,7 @@ module _ (ended : Bool) (piece log : List ℕ) (s : Step) (from : ℕ) where
       → Stepped met (s .counts) out (s .at) s′ out′
       → Going ended p₀ piece out₀ log′ out′ s′ (from + s′ .used)
   turn p₀ out₀ out log′ out′ s′ g e el st =
-      let place : s .at < 32768 = ltb-true (s .at) 32768 (and-second (ready ended (length (wordsOf piece) - from)) (ltb (s .at) 32768) (and-second (not (s .refused)) _ e)) in
+      let place : s .at < 32768 = ltb-true (s .at) 32768 (and-right (ready ended (length (wordsOf piece) - from)) (ltb (s .at) 32768) (and-right (not (s .refused)) _ e)) in
       let lent : length (met .log) ≡ 2048 = kept-there .size ∙ g .lent in
       let short : length (told (met .answer) (met .log)) ≤ 18432 = told-length (met .answer) (met .log) lent in
       let buffer : length out ≡ 65536 = wrote-length (g .wrote) ∙ g .buffer in
@@ -252,7 +242,7 @@ module _ (piece out lent′ out₁ out′ piece′ : List ℕ) (end : ℕ) (ende
 
       go : (e : Bool) → ends ended (r .step .refused) ((end - r .from * 4) / 4) (r .step .at) ≡ e → ClosesBy e (r .step) (end - r .from * 4) out₁ cl out′ → Gives made piece out piece′ lent′ out′ (cond e (closed p) p)
       go true e k =
-          let small : r .step .at < 32768 = ltb-true (r .step .at) 32768 (and-second (eqb ((end - r .from * 4) / 4) 0) _ (and-second (not (r .step .refused)) _ (and-second ended _ e))) in
+          let small : r .step .at < 32768 = ltb-true (r .step .at) 32768 (and-right (eqb ((end - r .from * 4) / 4) 0) _ (and-right (not (r .step .refused)) _ (and-right ended _ e))) in
           record {
             world = g .world;
             counts = g .counts;

@@ -19,7 +19,8 @@ use Rattle.study_text.specs.Text.{word, wordsOf}
 use Rattle.play.specs.Play.{told, countsAfter, ending}
 use Rattle.pieces.specs.Pieces.{Playing, after, nextRecord, ready, hasRoom, goes, playTo, ends, closed, close, advanced, playing, fresh}
 use Rattle.pieces.proofs.Sizes.{words-drop, words-few}
-use Rattle.pieces.proofs.Going.{and-first, and-second, not-true}
+use Rattle.float.proofs.Cases.{and-left, and-right}
+use Rattle.pieces.proofs.Going.{not-true}
 use Rattle.whole_tape.specs.Study.{goesOn, printed, studyText}
 use Rattle.whole_tape.specs.WholeTape.{Longest, stillPrints, begun, Round, given, emptied, round, afterRounds, wroteOut, allRead, InOrder, Rounds, Over}
 use Rattle.whole_tape.proofs.Ignoring.{longest}
@@ -77,14 +78,14 @@ same-record ended p more e h = go (leb 69 (length (wordsOf (p .bytes)))) refl
   where
     go : (b : Bool) → leb 69 (length (wordsOf (p .bytes))) ≡ b → recordOf (p .world) (wordsOf (p .bytes ++ more)) (p .log) ≡ recordOf (p .world) (wordsOf (p .bytes)) (p .log)
     go true k = rw words-joined (record-joined (p .world) (wordsOf (p .bytes)) _ (p .log) (leb-true 69 (length (wordsOf (p .bytes))) k))
-    go false k = let n : more ≡ [] = h (and-first ended _ (rw k at e)) in rw (n, append-nil)
+    go false k = let n : more ≡ [] = h (and-left ended _ (rw k at e)) in rw (n, append-nil)
 
 some-words : (ended : Bool) (n : ℕ) → ready ended n ≡ true → 0 < n
 some-words ended n e = go (leb 69 n) refl
   where
     go : (b : Bool) → leb 69 n ≡ b → 0 < n
     go true k = omega (arith, leb-true 69 n k)
-    go false k = ltb-true 0 n (and-second ended _ (rw k at e))
+    go false k = ltb-true 0 n (and-right ended _ (rw k at e))
 
 -- what is printed of a record and after it
 printed-one : (n : ℕ) (w : World) (c : Counts) (log b : List ℕ) (o : Outcome) → recordOf w (wordsOf b) log ≡ o → 0 < length (wordsOf b)
@@ -114,8 +115,8 @@ next-prints : (ended : Bool) (p : Playing) (more : List ℕ)
     → stillPrints (nextRecord p) more ≡ stillPrints p more
 unfolding stillPrints nextRecord
 next-prints ended p more e h =
-    let stands : p .over ≡ false = not-true (p .over) (and-first (not (p .over)) _ e) in
-    let w : ready ended (length (wordsOf (p .bytes))) ≡ true = and-first (ready ended (length (wordsOf (p .bytes)))) _ (and-second (not (p .over)) _ e) in
+    let stands : p .over ≡ false = not-true (p .over) (and-left (not (p .over)) _ e) in
+    let w : ready ended (length (wordsOf (p .bytes))) ≡ true = and-left (ready ended (length (wordsOf (p .bytes)))) _ (and-right (not (p .over)) _ e) in
     let some : 0 < length (wordsOf (p .bytes)) = some-words ended (length (wordsOf (p .bytes))) w in
     let o = recordOf (p .world) (wordsOf (p .bytes)) (p .log) in
     let k = kept (p .world) (wordsOf (p .bytes)) (p .log) in
@@ -143,10 +144,10 @@ close-prints ended p more h = go (ends ended (p .over) (length (wordsOf (p .byte
     go : (b : Bool) → ends ended (p .over) (length (wordsOf (p .bytes))) (length (p .text)) ≡ b → stillPrints (cond b (closed p) p) more ≡ stillPrints p more
     go false e = refl
     go true e =
-        let k = and-second ended _ e in
-        let stands : p .over ≡ false = not-true (p .over) (and-first (not (p .over)) _ k) in
-        let none : eqb (length (wordsOf (p .bytes))) 0 ≡ true = and-first (eqb (length (wordsOf (p .bytes))) 0) _ (and-second (not (p .over)) _ k) in
-        rw (h (and-first ended _ e), append-nil, stands, append-nil (p .bytes), none)
+        let k = and-right ended _ e in
+        let stands : p .over ≡ false = not-true (p .over) (and-left (not (p .over)) _ k) in
+        let none : eqb (length (wordsOf (p .bytes))) 0 ≡ true = and-left (eqb (length (wordsOf (p .bytes))) 0) _ (and-right (not (p .over)) _ k) in
+        rw (h (and-left ended _ e), append-nil, stands, append-nil (p .bytes), none)
 
 advanced-prints : (ended : Bool) (p : Playing) (more : List ℕ) → (ended ≡ true → more ≡ []) → stillPrints (advanced ended p) more ≡ stillPrints p more
 unfolding advanced
