@@ -1,4 +1,4 @@
--- The cars' turns: what a turn of the code is in the world so far. Assumes nothing.
+-- The turns of the cars' doors: what a turn of the code is in the world so far. Assumes nothing.
 use mathlib.Core.Path.{_≡_, refl, sym, ap, _∙_}
 use mathlib.Core.Bool.{Bool, true, false, not, _&&_, _||_, cond, true≢false}
 use mathlib.Core.Logic.{_⊎_, ⊎-elim}
@@ -54,6 +54,15 @@ pub more : {turn : World → ℕ → Step} {world w : World} {l l′ l″ : List
 unfolding runTo
 more s k e h = record { left = rw (add-one, ← k .left, e); opens = rw (add-one, ← k .left, e, ← k .opens); wrote = rw (add-one, ← k .left, e) (also (k .wrote) h) }
 
+-- a turn that is skipped, and one that is not
+pub skipped : (b : Bool) (t : Turn) {u : Turn} {l l′ : List ℕ} {at : ℕ} {r : Turned} → not b ≡ true → Turns u l at l′ r → Turns (cond b t u) l at l′ r
+skipped true t e h = absurd (true≢false (sym e))
+skipped false t e h = h
+
+pub unskipped : (b : Bool) {t : Turn} (u : Turn) {l l′ : List ℕ} {at : ℕ} {r : Turned} → not b ≡ false → Turns t l at l′ r → Turns (cond b t u) l at l′ r
+unskipped true u e h = h
+unskipped false u e h = absurd (true≢false e)
+
 module _ {l l′ : List ℕ} {at : ℕ} {r : Turned} where
   -- who stands on the threshold matters only to a command
   asked : (i : ℕ) (c : Car) (a traversing u : Bool) (next : StopOption) → (c .«command_count» ≡ 0) ⊎ (traversing ≡ u) → Turns (doorTurn i c a traversing next) l at l′ r
@@ -85,14 +94,6 @@ quiet false none stays h f = refl
 quiet true true true h f = f refl refl
 quiet true true false h f = absurd (true≢false h)
 quiet true false stays h f = absurd (true≢false h)
-
--- a car with a turn is enabled
-both : (a b : Bool) → (a && b) ≡ true → a ≡ true
-both true b h = refl
-both false b h = h
-
-pub is-enabled : (c : Car) → hasTurn c ≡ true → c .enabled ≡ true
-is-enabled c h = both (c .enabled) (not (eqb (c .«command_count») 0) || not (stays (c .phase) (c .door) c)) h
 
 -- a car with its own number of commands
 as-it-is : (c : Car) (n : ℕ) → n ≡ c .«command_count» → withDoor c (c .phase) (c .door) (c .«target_stop») (lampsOf c) (c .«going_forward») (c .«door_command_queue») n ≡ c

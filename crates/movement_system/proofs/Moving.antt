@@ -2,7 +2,7 @@
 use mathlib.Core.Path.{_≡_, refl, sym, ap, _∙_}
 use mathlib.Core.Bool.{Bool, true, false}
 use mathlib.Core.Logic.{_⊎_, ⊎-elim}
-use mathlib.Core.List.{List, [], _∷_}
+use mathlib.Core.List.{List, [], _∷_, _++_}
 use Prim.Native.Nat.{ℕ, zero, suc, _+_, _<_, _≤_, min}
 use native.Mathlib.Numerals.{add-one}
 use borrow.Author.Tests.{lt-ltb, le-ltb}
@@ -20,14 +20,19 @@ use Rattle.world.specs.declared.LineKind.the-variants.{Linear, Loop}
 use Rattle.leader.specs.declared.LeaderOption.{LeaderOption}
 use Rattle.log.specs.Log.{Wrote}
 use Rattle.log.proofs.Writing.{also, wrote-none}
-use Rattle.steps.specs.Steps.{plus, Step, lineOf, lampsOf, placed, stepped, notOpened, runTo}
+use Rattle.steps.specs.Steps.{plus, Step, lineOf, lampsOf, placed, stepped, notOpened, runTo, runCars}
+use Rattle.steps.specs.declared.JustOpened.{JustOpened}
+use Rattle.doors_system.specs.Doors.{standing, doorsWorld, doorsWords}
+use Rattle.doors_system.proofs.Running.{Runs}
+use Rattle.hall_calls.specs.Clearing.{Standing, Clears, clearTo, clearWordsTo}
+use Rattle.hall_calls.specs.declared.Calls.{Calls}
 use Rattle.steps.specs.declared.Lamps.{Lamps}
 use Rattle.trips.specs.Trips.{isTrip, isLoop, tripOf}
 use Rattle.landing.specs.Landing.{leaderOf, landing}
 use Rattle.arrival.specs.Arrival.{asksWork, workOf}
 use Rattle.trips.specs.declared.Trip.{Trip}
 use Rattle.trips.specs.declared.Trip.the-variants.{Rests, Drives, GoesTo, Repositions}
-use Rattle.movement_system.specs.Movement.{turnBy, moveOf}
+use Rattle.movement_system.specs.Movement.{turnBy, moveOf, moved}
 use Rattle.movement_system.specs.Parts.{wordsBy, movesBy, stepBy, Tells}
 use Rattle.moves.specs.Moves.{come, distanceBy}
 use Rattle.movement_system.specs.declared.Emitted.{Emitted}
@@ -180,23 +185,40 @@ pub more : {turn : World → ℕ → Step} {world w w′ : World} {l l′ l″ :
 unfolding runTo
 more k e f h = record { left = f ∙ rw (add-one, ← k .left, ← e); wrote = rw (add-one, ← k .left) (also (k .wrote) (rw (← e) at h)) }
 
--- a turn leaves the stops
-pub same-stops : (turn : World → ℕ → Step) (w : World) (i : ℕ) → runTo turn w i .world .stops ≡ w .stops
+-- turns leave whatever no turn touches
+pub kept : {A : Type 0} (field : World → A) → ((w : World) (i : ℕ) (s : Step) → field (stepped w i s) ≡ field w) → (turn : World → ℕ → Step) (w : World) (i : ℕ)
+    → field (runTo turn w i .world) ≡ field w
 unfolding runTo
-same-stops turn w zero = refl
-same-stops turn w (suc i) = same-stops turn w i
-
-pub same-count : (turn : World → ℕ → Step) (w : World) (i : ℕ) → runTo turn w i .world .«stop_count» ≡ w .«stop_count»
-unfolding runTo
-same-count turn w zero = refl
-same-count turn w (suc i) = same-count turn w i
+kept field e turn w zero = refl
+kept field e turn w (suc i) = e (runTo turn w i .world) i (turn (runTo turn w i .world) i) ∙ kept field e turn w i
 
 pub stops-kept : {turn : World → ℕ → Step} {world w : World} {l l′ : List ℕ} {at i to : ℕ} → Moves turn world l at i w l′ to → w .stops ≡ world .stops
-stops-kept {turn} {world} {w} {l} {l′} {at} {i} k = ap (λ (z : World). z .stops) (k .left) ∙ same-stops turn world i
+stops-kept {turn} {world} {w} {l} {l′} {at} {i} k = ap (λ (z : World). z .stops) (k .left) ∙ kept (λ (z : World). z .stops) (λ v j s. refl) turn world i
 
 pub count-kept : {turn : World → ℕ → Step} {world w : World} {l l′ : List ℕ} {at i to : ℕ} → Moves turn world l at i w l′ to
     → w .«stop_count» ≡ world .«stop_count»
-count-kept {turn} {world} {w} {l} {l′} {at} {i} k = ap (λ (z : World). z .«stop_count») (k .left) ∙ same-count turn world i
+count-kept {turn} {world} {w} {l} {l′} {at} {i} k = ap (λ (z : World). z .«stop_count») (k .left) ∙ kept (λ (z : World). z .«stop_count») (λ v j s. refl) turn world i
+
+pub cars-kept : {turn : World → ℕ → Step} {world w : World} {l l′ : List ℕ} {at i to : ℕ} → Moves turn world l at i w l′ to
+    → w .«car_count» ≡ world .«car_count»
+cars-kept {turn} {world} {w} {l} {l′} {at} {i} k = ap (λ (z : World). z .«car_count») (k .left) ∙ kept (λ (z : World). z .«car_count») (λ v j s. refl) turn world i
+
+-- the hall calls that stand, after the doors' turns
+pub calls-kept : {turn : World → ℕ → Step} {world w : World} {l l′ : List ℕ} {at i to : ℕ} {opened : List JustOpened} → Runs turn world l at i w opened l′ to
+    → standing w ≡ standing world
+calls-kept {turn} {world} {w} {l} {l′} {at} {i} k = ap standing (k .left) ∙ kept standing (λ v j s. refl) turn world i
+
+-- the same calls cleared by the same cars
+pub cleared : (opened : List JustOpened) {a b : Standing} {n m : ℕ} {l l′ : List ℕ} {at : ℕ} {r : Calls} → a ≡ b → n ≡ m
+    → Clears (clearTo opened a n) (clearWordsTo opened a n) l at l′ r → Clears (clearTo opened b m) (clearWordsTo opened b m) l at l′ r
+cleared opened e f h = rw (← e, ← f) h
+
+-- all cars' moves, then their doors: what both leave and write
+pub doored-after : (dt : Float) (world : World) {w v : World} {l l′ l″ : List ℕ} {at to b : ℕ} → Moves (moveOf dt) world l at (min (world .«car_count») 16) w l′ to
+    → v ≡ doorsWorld w → Wrote l′ to (doorsWords w) l″ b
+    → (v ≡ doorsWorld (moved world dt .world)) × Wrote l at (moved world dt .words ++ doorsWords (moved world dt .world)) l″ b
+unfolding moved runCars
+doored-after dt world k e h = (rw (← k .left) e, rw (← k .left) (also (k .wrote) h))
 
 -- ---- one turn more, as the code makes it
 

@@ -8,6 +8,7 @@ ghost use Rattle.tick.specs.Counters.{NothingWraps};
 ghost use Rattle.tick.specs.Traps.{Traps};
 use log::Event;
 use log::emit;
+use movement_system::cars::run;
 use steps::Ran;
 use world::World;
 
@@ -15,13 +16,12 @@ pub fn tick(world: World, log: &mut [u32], dt: f64) -> Ran
     ensures { λ r. ⌜ (r .world ≡ tickWorld world dt) × Wrote (now (log .entry)) 0 (tickWords world dt) (now (log .exit)) (r .at) ⌝ }
 {
     let told = emit(log, 0, Event::TickMade { tick: world.ticks });
-    let moved = movement_system::cars::run(world, log, told, dt);
-    let doored = doors_system::run(moved.world, log, moved.at);
-    let mut w = doored.world;
+    let ran = run(world, log, told, dt);
+    let mut w = ran.world;
     w.ticks = std::num::wrapping_add_u64(w.ticks, 1);
     Ran {
         world: w,
-        at: doored.at,
+        at: ran.at,
     }
 }
 

@@ -8,14 +8,14 @@ use Rattle.tick.proofs.tick.Statement.{statement}
 use Rattle.tick.proofs.tick.Tie as tie
 
 same-length : tie.Need-same-length
-same-length c = wrote-length (also (also (c .before .before .before .before .before .before .before .before .before .before .before .before .emit .ensures) (c .before .before .before .before .before .before .before .before .run .ensures .1)) (c .before .before .before .before .run2 .ensures .1))
+same-length c = wrote-length (also (c .before .before .before .before .before .before .before .before .emit .ensures) (c .before .before .before .before .run .ensures .1))
 
 returns : tie.Need-returns
 unfolding tickWorld tickWords plus
 returns c = (
-  rw (c .wrapping-add-u64 .ensures, c .before .before .before .before .run2 .ensures .0, c .before .before .before .before .before .before .before .before .run .ensures .0),
-  rw (c .before .before .before .before .before .before .before .before .run .ensures .0) at (also (also (c .before .before .before .before .before .before .before .before .before .before .before .before .emit .ensures) (c .before .before .before .before .before .before .before .before .run .ensures .1)) (c .before .before .before .before .run2 .ensures .1)),
+  rw (c .wrapping-add-u64 .ensures, c .before .before .before .before .run .ensures .0),
+  also (c .before .before .before .before .before .before .before .before .emit .ensures) (c .before .before .before .before .run .ensures .1),
 )
 
 pub tick-spec : {M : Type 1} → statement M
-tick-spec = tie.close (tie.spec (λ c κs. tt) (λ c κs. tt) (λ c κs. tt) (λ c κs. tt) same-length returns)
+tick-spec = tie.close (tie.spec (λ c κs. tt) (λ c κs. tt) (λ c κs. tt) same-length returns)
