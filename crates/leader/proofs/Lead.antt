@@ -12,46 +12,54 @@ use lib.Ieee.{Float}
 use borrow.Author.Tests.{eqb-true, eqb-false, eq-eqb, ne-eqb, not-true}
 use Rattle.float.specs.Float.{totalBefore}
 use Rattle.float.specs.Facts.{TotalOrder}
-use Rattle.float.proofs.Cases.{no, and-left, and-right}
+use Rattle.float.proofs.Cases.{no, yes, and-left, and-right}
 use Rattle.float.proofs.Total.{total-order}
 use Rattle.world.specs.World.{carAt}
 use Rattle.leader.specs.Leader.{positionOf, isOther, carAhead, leaderOr, leaderTo, leaderPos, loopLeaderPos, IsOther, Led, LeaderIsNearest}
-use Rattle.leader.specs.Ahead.{aheadAfter, posOf}
+use Rattle.leader.specs.Ahead.{isNearer}
 use Rattle.world.specs.declared.Car.{Car}
 use Rattle.world.specs.declared.CarOption.{CarOption}
 use Rattle.world.specs.declared.CarOption.the-variants.{NoCar, OfCar}
-use Rattle.leader.specs.declared.Ahead.{Ahead}
-use Rattle.leader.specs.declared.Ahead.the-variants.{Nobody, Somebody}
+use Rattle.leader.specs.declared.LeaderOption.the-variants.{NoLeader, At}
 
 -- ---- the code's turn
 
--- a leader's distance and position
-abbrev pub held : List Car → Float → Float → CarOption → Ahead
-held cars pos circumference NoCar = Nobody
-held cars pos circumference (OfCar j) = Somebody (carAhead cars pos circumference j) (positionOf cars j)
+-- what the search holds: whether there is a leader, its distance and its position
+pub data Held (cars : List Car) (pos circumference : Float) : CarOption → Bool → Float → Float → Type 0 where
+  nobody : {nearest position : Float} → Held cars pos circumference NoCar false nearest position
+  somebody : (j : ℕ) → Held cars pos circumference (OfCar j) true (carAhead cars pos circumference j) (positionOf cars j)
 
-module _ (cars : List Car) (me line : ℕ) (pos circumference : Float) where
-  held-or : (x : CarOption) (i : ℕ) → aheadAfter (held cars pos circumference x) (positionOf cars i) pos circumference ≡ held cars pos circumference (leaderOr cars pos circumference x i)
-  held-or NoCar i = refl
-  held-or (OfCar j) i = by (totalBefore (carAhead cars pos circumference i) (carAhead cars pos circumference j))
-    where
-      by : (b : Bool) → cond b (held cars pos circumference (OfCar i)) (held cars pos circumference (OfCar j)) ≡ held cars pos circumference (cond b (OfCar i) (OfCar j))
-      by true = refl
-      by false = refl
+module _ {cars : List Car} {pos circumference : Float} where
+  or-taken : {x : CarOption} {found : Bool} {nearest position : Float} (i : ℕ) → Held cars pos circumference x found nearest position
+      → isNearer found nearest (carAhead cars pos circumference i) ≡ true
+      → Held cars pos circumference (leaderOr cars pos circumference x i) true (carAhead cars pos circumference i) (positionOf cars i)
+  or-taken i nobody u = somebody i
+  or-taken i (somebody j) u = rw u (somebody i)
 
-  pub taken : (i : ℕ) (best : Ahead) → best ≡ held cars pos circumference (leaderTo cars me line pos circumference i) → isOther cars me line i ≡ true
-      → aheadAfter best (positionOf cars i) pos circumference ≡ held cars pos circumference (leaderTo cars me line pos circumference (i + 1))
-  unfolding leaderTo
-  taken i best e t = rw (add-one, t, e) (held-or (leaderTo cars me line pos circumference i) i)
+  or-kept : {x : CarOption} {found : Bool} {nearest position : Float} (i : ℕ) → Held cars pos circumference x found nearest position
+      → isNearer found nearest (carAhead cars pos circumference i) ≡ false
+      → Held cars pos circumference (leaderOr cars pos circumference x i) found nearest position
+  or-kept i nobody u = yes u
+  or-kept i (somebody j) u = rw u (somebody j)
 
-  pub passed : (i : ℕ) (best : Ahead) → best ≡ held cars pos circumference (leaderTo cars me line pos circumference i) → isOther cars me line i ≡ false
-      → best ≡ held cars pos circumference (leaderTo cars me line pos circumference (i + 1))
-  unfolding leaderTo
-  passed i best e t = rw (add-one, t) e
+  pub pos-held : {x : CarOption} {found : Bool} {nearest position : Float} → Held cars pos circumference x found nearest position → cond found (At position) NoLeader ≡ leaderPos cars x
+  pos-held nobody = refl
+  pos-held (somebody j) = refl
 
-  pub pos-held : (x : CarOption) → posOf (held cars pos circumference x) ≡ leaderPos cars x
-  pos-held NoCar = refl
-  pos-held (OfCar j) = refl
+  module _ {found : Bool} {nearest position : Float} (me line i : ℕ) (h : Held cars pos circumference (leaderTo cars me line pos circumference i) found nearest position) where
+    pub taken : isOther cars me line i ≡ true → isNearer found nearest (carAhead cars pos circumference i) ≡ true
+        → Held cars pos circumference (leaderTo cars me line pos circumference (i + 1)) true (carAhead cars pos circumference i) (positionOf cars i)
+    unfolding leaderTo
+    taken t u = rw (add-one, t) (or-taken i h u)
+
+    pub kept : isOther cars me line i ≡ true → isNearer found nearest (carAhead cars pos circumference i) ≡ false
+        → Held cars pos circumference (leaderTo cars me line pos circumference (i + 1)) found nearest position
+    unfolding leaderTo
+    kept t u = rw (add-one, t) (or-kept i h u)
+
+    pub passed : isOther cars me line i ≡ false → Held cars pos circumference (leaderTo cars me line pos circumference (i + 1)) found nearest position
+    unfolding leaderTo
+    passed t = rw (add-one, t) h
 
 -- ---- the claim
 

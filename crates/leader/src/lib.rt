@@ -2,7 +2,7 @@
 ghost use mathlib.Core.Path.{_≡_};
 ghost use mathlib.Core.Bool.{true};
 ghost use Rattle.leader.specs.Leader.{isOtherCar, loopLeaderPos, LeaderIsNearest};
-ghost use Rattle.leader.specs.Ahead.{aheadAfter, posOf};
+ghost use Rattle.leader.specs.Ahead.{isNearer};
 use float::total_before;
 use lookup::stops::count_in;
 use motion::cyclic::forward_distance;
@@ -14,12 +14,6 @@ pub enum LeaderOption {
     At(f64),
 }
 
-// The nearest car ahead so far: its distance and its position.
-enum Ahead {
-    Nobody,
-    Somebody { distance: f64, position: f64 },
-}
-
 // Whether car i is another car of the line, disabled or not.
 fn is_other(car: Car, me: usize, line: u8, i: usize) -> bool
     ensures { λ r. ⌜ r ≡ isOtherCar car me line i ⌝ }
@@ -27,36 +21,11 @@ fn is_other(car: Car, me: usize, line: u8, i: usize) -> bool
     (i != me) & (car.line == line)
 }
 
-// A car at a position in place of the nearest so far, where it is nearer.
-fn nearer_car(best: Ahead, position: f64, pos: f64, circumference: f64) -> Ahead
-    ensures { λ r. ⌜ r ≡ aheadAfter best position pos circumference ⌝ }
+// Whether a car at a distance goes in place of the nearest so far: none is found, or this one is nearer.
+fn is_nearer(found: bool, nearest: f64, distance: f64) -> bool
+    ensures { λ r. ⌜ r ≡ isNearer found nearest distance ⌝ }
 {
-    let distance = forward_distance(pos, position, circumference);
-    match best {
-        Ahead::Nobody => Ahead::Somebody { distance, position },
-        Ahead::Somebody {
-            distance: d,
-            position: _,
-        } => {
-            if total_before(distance, d) {
-                return Ahead::Somebody { distance, position };
-            }
-            best
-        }
-    }
-}
-
-// The position, without its distance.
-fn pos_of(best: Ahead) -> LeaderOption
-    ensures { λ r. ⌜ r ≡ posOf best ⌝ }
-{
-    match best {
-        Ahead::Nobody => LeaderOption::NoLeader,
-        Ahead::Somebody {
-            distance: _,
-            position,
-        } => LeaderOption::At(position),
-    }
+    !found | total_before(distance, nearest)
 }
 
 // movement.rs, loop_leader_pos
@@ -71,16 +40,28 @@ pub fn loop_leader_pos(
     ensures { λ r. ⌜ r ≡ loopLeaderPos cars «car_count» me line pos circumference ⌝ }
 {
     let n = count_in(car_count, 16);
-    let mut best = Ahead::Nobody;
+    // Plain variables: a copy of an enum waits for its padding.
+    let mut found = false;
+    let mut nearest: f64 = 0.0;
+    let mut position: f64 = 0.0;
     let mut i: usize = 0;
     while i < n {
         let car = cars[i];
         if is_other(car, me, line, i) {
-            best = nearer_car(best, car.motion.position, pos, circumference);
+            let distance = forward_distance(pos, car.motion.position, circumference);
+            if is_nearer(found, nearest, distance) {
+                found = true;
+                nearest = distance;
+                position = car.motion.position;
+            }
         }
         i += 1;
     }
-    pos_of(best)
+    if found {
+        LeaderOption::At(position)
+    } else {
+        LeaderOption::NoLeader
+    }
 }
 
 // Carries the claim that the definition gives the leader.
