@@ -133,6 +133,14 @@ module _ (stops : List Float) where
   unfolding stopBefore
   not-later i j h = third (positionBefore (at i) (at j)) (positionBefore (at j) (at i)) (ltb i j) (not-both (at i) (at j)) h
 
+  pub not-before-lower : (i j : ℕ) → lt (at j) (at i) ≡ true → stopBefore stops i j ≡ false
+  unfolding positionBefore
+  not-before-lower i j h = by (stopBefore stops i j) refl
+    where
+      by : (b : Bool) → stopBefore stops i j ≡ b → b ≡ false
+      by true e = yes (rw h at (not-later i j e))
+      by false e = refl
+
   by-number : (i j : ℕ) → stopBefore stops i j ≡ true → positionBefore (at i) (at j) ≡ false → i < j
   unfolding stopBefore
   by-number i j h e = ltb-true i j (second (positionBefore (at i) (at j)) (positionBefore (at j) (at i)) (ltb i j) h e)

@@ -1,6 +1,6 @@
 // The sort of stops: by position (0 and -0 alike, one that is not a number last), then number.
 ghost use mathlib.Core.Path.{_≡_};
-ghost use mathlib.Core.Bool.{true};
+ghost use mathlib.Core.Bool.{true, not};
 ghost use Prim.Native.Nat.{_+_, _<_, min};
 ghost use Rattle.sorted.specs.Sorted.{positionBefore, stopBefore, sortedTable, StopsSorted};
 use lookup::stops::count_in;
@@ -22,6 +22,16 @@ fn stop_before(stops: &[f64; 64], i: u8, j: u8) -> bool
     position_before(p, q) | !position_before(q, p) & (i < j)
 }
 
+// Whether stop i does not come before stop j. Where j lies lower, one comparison says so.
+fn comes_after(stops: &[f64; 64], i: u8, j: u8) -> bool
+    ensures { λ r. ⌜ r ≡ not (stopBefore (now (stops .entry)) i j) ⌝ }
+{
+    if stop_position(stops, j) < stop_position(stops, i) {
+        return true;
+    }
+    !stop_before(stops, i, j)
+}
+
 // Stop i into the sorted i before it, from the back: one comparison where it comes last.
 fn insert(order: &mut [u8; 64], stops: &[f64; 64], i: usize)
     requires { ⌜ (i < 64) × (now order ≡ sortedTable (now stops) i) ⌝ }
@@ -30,7 +40,7 @@ fn insert(order: &mut [u8; 64], stops: &[f64; 64], i: usize)
     let mut k = i;
     while 0 < k {
         let j = order[k - 1];
-        if !stop_before(stops, i as u8, j) {
+        if comes_after(stops, i as u8, j) {
             order[k] = i as u8;
             return;
         }

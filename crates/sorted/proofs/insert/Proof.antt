@@ -23,16 +23,14 @@ returns c =
     let b = c .before .before .before in
     let l = b .before .loop in
     let a = b .before .before .args in
-    let t = sym (c .before .stop-before .ensures) ∙ not-true (c .before .stop-before .result) (c .if1 .taken) in
-    sym (placed (a .stops .now) (l .order) (a .i) (l .k) (b .loop-test .taken) t) ∙ l .inv .1
+    sym (placed (a .stops .now) (l .order) (a .i) (l .k) (b .loop-test .taken) (not-true _ (sym (c .before .comes-after .ensures) ∙ c .if1 .taken))) ∙ l .inv .1
 
 loop-again : tie.Need-loop-again Inv-loop μ-loop
 loop-again c =
     let b = c .before .before .before in
     let l = b .before .loop in
     let a = b .before .before .args in
-    let t = sym (c .before .stop-before .ensures) ∙ not-false (c .before .stop-before .result) (c .if1 .left) in
-    (omega arith, sym (moved (a .stops .now) (l .order) (a .i) (l .k) (b .loop-test .taken) t) ∙ l .inv .1)
+    (omega arith, sym (moved (a .stops .now) (l .order) (a .i) (l .k) (b .loop-test .taken) (not-false _ (sym (c .before .comes-after .ensures) ∙ c .if1 .left))) ∙ l .inv .1)
 
 returns-2 : tie.Need-returns-2 Inv-loop μ-loop
 unfolding fromBack
