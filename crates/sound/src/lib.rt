@@ -100,7 +100,8 @@ pub fn line_broken(stops: usize, line: Line) -> bool
     if 64 < count {
         return true;
     }
-    one_unloaded(&line.serves, count, stops)
+    let serves = line.serves;
+    one_unloaded(&serves, count, stops)
 }
 
 fn car_broken(lines: usize, stops: usize, car: Car) -> bool
@@ -109,6 +110,7 @@ fn car_broken(lines: usize, stops: usize, car: Car) -> bool
     let count = car.destination_count;
     let phase = car.phase;
     let target = car.target_stop;
+    let queue = car.destination_queue;
     if 8 < count {
         return true;
     }
@@ -117,7 +119,7 @@ fn car_broken(lines: usize, stops: usize, car: Car) -> bool
         | unloaded(lines, car.line)
         | phase_unloaded(stops, phase)
         | stop_unloaded(stops, target)
-        | one_unloaded(&car.destination_queue, count, stops)
+        | one_unloaded(&queue, count, stops)
 }
 
 // Whether a rider names a stop or a car that is not loaded.
