@@ -1,4 +1,4 @@
--- Which records are left at the last arm of a match, and how many cars and stops a world has that is not broken. Assumes nothing.
+-- Which records are left at the last arm of a match, and which come from a tick's head. Assumes nothing.
 use mathlib.Core.Path.{_≡_, refl, sym, ap}
 use mathlib.Core.Bool.{Bool, true, false, true≢false, cond}
 use mathlib.Core.List.{List, [], _∷_}
@@ -6,6 +6,11 @@ use Prim.Native.Nat.{ℕ, _≤_}
 use denote.Enum.Declared.{tagOf}
 use types.Run.{OneOf, miss}
 use Rattle.tape.proofs.Record.{the-type}
+use lib.Dec.{eqb}
+use Rattle.tape.specs.Tape.{beginsTick, decoded}
+use Rattle.tape.specs.Facts.{Facts, kindNumber}
+use Rattle.tape.proofs.Bounds.{in-bounds}
+use Rattle.tape.specs.declared.Read.the-variants as Read
 use Rattle.tape.specs.declared.Record.{Record}
 use Rattle.tape.specs.declared.Record.the-variants.{Line, Stop, Car, Rider, Send, Mode, ManualSpeed, DoorCommand, HallCall, Destination, Enable, Tick, Start}
 use Rattle.record.specs.Parts.{isTick, isOrder}
@@ -69,3 +74,23 @@ no-tick (Destination car stop) k = refl
 no-tick (Enable car enabled) k = refl
 no-tick (Tick dt) k = absurd (miss others 11 tt k)
 no-tick Start k = refl
+
+-- a record that was read is a tick where the head is a tick's
+kind-tick : (read : Record) → eqb (kindNumber read) 12 ≡ isTick read
+kind-tick (Line number kind listed count) = refl
+kind-tick (Stop number position) = refl
+kind-tick (Car number line motion transition opening) = refl
+kind-tick (Rider number rider) = refl
+kind-tick (Send car stop reposition) = refl
+kind-tick (Mode car mode) = refl
+kind-tick (ManualSpeed car speed) = refl
+kind-tick (DoorCommand car command) = refl
+kind-tick (HallCall stop down) = refl
+kind-tick (Destination car stop) = refl
+kind-tick (Enable car enabled) = refl
+kind-tick (Tick dt) = refl
+kind-tick Start = refl
+
+pub head-tick : (words : List ℕ) {read : Record} {used : ℕ} → decoded words .read ≡ Read.Accepted read used → beginsTick words ≡ isTick read
+unfolding Facts
+head-tick words {read} d = let b = rw d at (in-bounds words) in rw (b .2) (kind-tick read)

@@ -24,7 +24,7 @@ use Rattle.tick.proofs.Proved.{words-fit}
 use Rattle.record.specs.declared.Recorded.{Recorded}
 use Rattle.record.specs.declared.Answer.the-variants.{Accepted, Refused}
 use Rattle.record.specs.Record.{Outcome, Gives, accepted, refused, answerOf, changed, tickOnce, taken, recordOf}
-use Rattle.record.specs.Parts.{Few}
+use Rattle.record.specs.Parts.{Few, readFrom}
 
 -- a refusal: the answer, and the world as it was
 abbrev pub Says : Recorded → World → Refusal → Type 0
@@ -79,15 +79,16 @@ module _ (w : World) (log : List ℕ) where
   unfolding recordOf
   is-broken words e h = holds _ e h
 
-  pub is-refused : {r : Recorded} (words : List ℕ) {f : Refusal} →
-      broken w ≡ false → decoded words .read ≡ Read.Refused f → Says r w f → Gives r log (recordOf w words log)
+  pub is-whole : {r : Recorded} {left : List ℕ} (words : List ℕ) → broken w ≡ false → Gives r left (readFrom w words log) → Gives r left (recordOf w words log)
   unfolding recordOf
-  is-refused words e d h = passes BrokenWorld e (rw d (refusal-gives h))
+  is-whole words e h = passes BrokenWorld e h
+
+  pub is-refused : {r : Recorded} (words : List ℕ) {f : Refusal} → decoded words .read ≡ Read.Refused f → Says r w f → Gives r log (readFrom w words log)
+  is-refused words d h = rw d (refusal-gives h)
 
   pub is-taken : {r : Recorded} {left : List ℕ} (words : List ℕ) {read : Record} {used : ℕ} →
-      broken w ≡ false → decoded words .read ≡ Read.Accepted read used → Gives r left (taken w log used (decoded words .serves) read) → Gives r left (recordOf w words log)
-  unfolding recordOf
-  is-taken words e d h = passes BrokenWorld e (rw d h)
+      decoded words .read ≡ Read.Accepted read used → Gives r left (taken w log used (decoded words .serves) read) → Gives r left (readFrom w words log)
+  is-taken words d h = rw d h
 
 -- ---- a world that is not broken
 

@@ -5,9 +5,10 @@ use mathlib.Core.List.{List}
 use Prim.Native.Nat.{ℕ, _≤_}
 use Rattle.world.specs.declared.World.{World}
 use Rattle.changes.specs.declared.Changed.{Changed}
+use Rattle.tape.specs.Tape.{decoded}
 use Rattle.tape.specs.declared.Record.{Record}
 use Rattle.tape.specs.declared.Record.the-variants.{Line, Stop, Car, Rider, Send, Mode, ManualSpeed, DoorCommand, HallCall, Destination, Enable, Tick, Start}
-use Rattle.record.specs.Record.{changed, taken}
+use Rattle.record.specs.Record.{Outcome, changed, taken, readBy}
 
 -- kind C
 abbrev pub isTick : Record → Bool
@@ -52,6 +53,10 @@ Orders w read r = (serves : List ℕ) → isOrder read ≡ true → Does w serve
 -- of all kinds but C
 abbrev pub Changes : World → List ℕ → Record → Changed → Type 0
 Changes w serves read r = isTick read ≡ false → Does w serves read r
+
+-- what the words give in a world that is not broken
+abbrev pub readFrom : World → List ℕ → List ℕ → Outcome
+readFrom w words log = readBy w log (decoded words .serves) (decoded words .read)
 
 -- a world that is not broken has no more
 abbrev pub Few : World → Type 0

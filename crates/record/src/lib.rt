@@ -1,15 +1,19 @@
 // The record call: one record of a tape, checked in the paper's order and done.
 ghost use mathlib.Core.Path.{_≡_};
-ghost use mathlib.Core.Bool.{true};
+ghost use mathlib.Core.Bool.{true, false};
+ghost use mathlib.Core.List.{List};
+ghost use Prim.Native.Nat.{ℕ};
+ghost use Rattle.tape.specs.Tape.{beginsTick};
 ghost use Rattle.record.specs.Record as Call;
 ghost use Rattle.record.specs.Conditions.{FirstCondition, OnItsCondition};
-ghost use Rattle.record.specs.Parts.{Orders, Changes, Few};
+ghost use Rattle.record.specs.Parts.{Orders, Changes, Few, readFrom};
 use changes::Changed;
 use changes::Taken;
 use sound::broken;
 use tape::Read;
 use tape::Record;
 use tape::decode;
+use tape::is_tick;
 use tick::tick;
 use world::World;
 use world::refusal::Refusal;
@@ -127,31 +131,47 @@ fn tick_once(world: World, log: &mut [u32], dt: f64, used: usize) -> Recorded
     }
 }
 
-// The record that was read.
-fn take(world: World, log: &mut [u32], read: Record, serves: [u8; 64], used: usize) -> Recorded
-    requires { ⌜ Few world ⌝ }
-    ensures { λ r. ⌜ Call.Gives r (now (log .exit)) (Call.taken world (now (log .entry)) used serves read) ⌝ }
+// A record whose head is a tick's.
+fn tick_record(world: World, words: &[u32], log: &mut [u32]) -> Recorded
+    requires { ⌜ Few world × (beginsTick (now words) ≡ true) ⌝ }
+    ensures { λ r. ⌜ Call.Gives r (now (log .exit)) (readFrom world (now (words .entry)) (now (log .entry))) ⌝ }
 {
+    let decoded = decode(words);
+    let read = decoded.read;
     match read {
-        Record::Tick { dt } => tick_once(world, log, dt, used),
-        _ => answered(change(world, read, serves), used),
+        Read::Refused(refusal) => refused(world, refusal),
+        Read::Accepted(found, used) => match found {
+            Record::Tick { dt } => tick_once(world, log, dt, used),
+            _ => refused(world, Refusal::UnknownKind), // no other kind
+        },
     }
 }
 
-// One record call.
+// A record of any other kind, which leaves every log as it is.
+fn other_record(world: World, words: &[u32]) -> Recorded
+    requires { ⌜ beginsTick (now words) ≡ false ⌝ }
+    ensures { λ r. ⌜ ((log : List ℕ) → Call.Gives r log (readFrom world (now (words .entry)) log)) ⌝ }
+{
+    let decoded = decode(words);
+    let serves = decoded.serves;
+    let read = decoded.read;
+    match read {
+        Read::Refused(refusal) => refused(world, refusal),
+        Read::Accepted(found, used) => answered(change(world, found, serves), used),
+    }
+}
+
+// One record call. The tick goes its own way; `decode` is called in two places so that it stays a call of its own.
 pub fn record(world: World, words: &[u32], log: &mut [u32]) -> Recorded
     ensures { λ r. ⌜ Call.Gives r (now (log .exit)) (Call.recordOf world (now (words .entry)) (now (log .entry))) ⌝ }
 {
     if broken(world) {
         return refused(world, Refusal::BrokenWorld);
     }
-    let decoded = decode(words);
-    let serves = decoded.serves;
-    let read = decoded.read;
-    match read {
-        Read::Refused(refusal) => refused(world, refusal),
-        Read::Accepted(record, used) => take(world, log, record, serves, used),
+    if is_tick(words) {
+        return tick_record(world, words, log);
     }
+    other_record(world, words)
 }
 
 // Carries the certificate's first condition.

@@ -31,7 +31,7 @@ use Rattle.tape.specs.declared.Record.the-variants as Record
 use Rattle.tape.specs.declared.Read.{Read}
 use Rattle.tape.specs.declared.Read.the-variants.{Refused, Accepted}
 use Rattle.tape.specs.declared.Decoded.{Decoded}
-use Rattle.fields.specs.Fields.{headOf, floatAt, rawZeroAt, outsideSize, outsideFromZero, outsideAboveZero}
+use Rattle.fields.specs.Fields.{kindOf, headOf, floatAt, rawZeroAt, outsideSize, outsideFromZero, outsideAboveZero}
 
 -- ---- numbers: "Stops 0 to 63, cars 0 to 15, riders 0 to 127", lines 0 to 7; "Fields not named are 0"
 
@@ -305,6 +305,10 @@ tickRecord h ws = record {
       ∷ [];
   done = accepted (Record.Tick (floatAt ws 1)) 3;
 }
+
+-- whether the words begin with a tick's head: the first word's kind is C. Where there is no word, 0 stands for it, and kind 0 is none.
+abbrev pub beginsTick : List ℕ → Bool
+beginsTick ws = eqb (kindOf (getD ws 0 0)) 12
 
 -- ---- D start
 

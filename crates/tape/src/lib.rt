@@ -5,7 +5,7 @@ pub mod facts; // claims about the definitions
 
 ghost use mathlib.Core.Path.{_≡_};
 ghost use mathlib.Core.List.{[], _∷_};
-ghost use Rattle.tape.specs.Tape.{unless, accepted, refused, decoded};
+ghost use Rattle.tape.specs.Tape.{unless, accepted, refused, beginsTick, decoded};
 ghost use Rattle.world.specs.Refusal.{check};
 use door::DoorCommand;
 use fields::head::head_of;
@@ -120,6 +120,17 @@ fn checked(
         read,
         serves: [0u8; 64],
     }
+}
+
+// Whether the words begin with a tick's head.
+pub fn is_tick(words: &[u32]) -> bool
+    ensures { λ r. ⌜ r ≡ beginsTick (now (words .entry)) ⌝ }
+{
+    if words.len() > 0 {
+        let head = head_of(words[0]);
+        return head.kind == 12;
+    }
+    false
 }
 
 // The record that the words begin with.
