@@ -3,9 +3,11 @@ ghost use mathlib.Core.Path.{_≡_};
 ghost use Rattle.float.specs.Float.{numberBits};
 ghost use Rattle.record.specs.Record.{usedOf, writtenOf};
 ghost use Rattle.steps.specs.Steps.{plus};
+ghost use Rattle.world.specs.World.{emptyWorld};
 ghost use Rattle.beside_ticks.specs.Bench as Bench;
 use lent::turn;
 use record::Answer;
+use record::Recorded;
 use record::record;
 use std::num::wrapping_add_u64;
 use world::Car;
@@ -37,23 +39,35 @@ fn written_of(answer: Answer) -> usize
     }
 }
 
-// By the call that takes the world by value.
+// Before the first record: the empty world, as from a record that used no word and wrote none.
+fn nothing() -> Recorded
+    ensures { λ r. ⌜ (r .answer ≡ Answer.Accepted 0 0) × (r .world ≡ emptyWorld) ⌝ }
+{
+    let answer = Answer::Accepted {
+        used: 0,
+        written: 0,
+    };
+    let world = empty();
+    Recorded { answer, world }
+}
+
+// By the call that takes the world by value. What it made stays where it is, and its world is handed to the next call.
 fn by_value(words: &[u32], log: &mut [u32], records: u64) -> Played
     ensures { λ r. ⌜ Bench.Reached (Bench.playedTo (now (words .entry)) (now (log .entry)) records) (r .world) (now (log .exit)) (r .used) (r .written) ⌝ }
 {
     let end = words.len();
-    let mut world = empty();
+    let mut made = nothing();
     let mut used: usize = 0;
     let mut written: u64 = 0;
     let mut i: u64 = 0;
     while i < records {
-        let made = record(world, &words[used..end], log);
-        world = made.world;
+        made = record(made.world, &words[used..end], log);
         let answer = made.answer;
         used += used_of(answer);
         written = wrapping_add_u64(written, written_of(answer) as u64);
         i += 1;
     }
+    let world = made.world;
     Played {
         world,
         used,
@@ -61,23 +75,23 @@ fn by_value(words: &[u32], log: &mut [u32], records: u64) -> Played
     }
 }
 
-// By the call that is lent the world.
+// By the call that is lent the world, likewise.
 fn by_lending(words: &[u32], log: &mut [u32], records: u64) -> Played
     ensures { λ r. ⌜ Bench.Reached (Bench.playedTo (now (words .entry)) (now (log .entry)) records) (r .world) (now (log .exit)) (r .used) (r .written) ⌝ }
 {
     let end = words.len();
-    let mut world = empty();
+    let mut made = nothing();
     let mut used: usize = 0;
     let mut written: u64 = 0;
     let mut i: u64 = 0;
     while i < records {
-        let made = turn(world, &words[used..end], log);
-        world = made.world;
+        made = turn(made.world, &words[used..end], log);
         let answer = made.answer;
         used += used_of(answer);
         written = wrapping_add_u64(written, written_of(answer) as u64);
         i += 1;
     }
+    let world = made.world;
     Played {
         world,
         used,
