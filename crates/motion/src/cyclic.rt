@@ -10,6 +10,9 @@ use float::rem_euclid;
 pub extern "C" fn wrap_position(p: f64, circumference: f64) -> f64
     ensures { λ r. ⌜ r ≡ Cyclic.wrapPosition p circumference ⌝ }
 {
+    if (0.0 <= p) & (p < circumference) {
+        return p; // it lies in the circle already
+    }
     if !is_finite(circumference) | (circumference <= 0.0) | !is_finite(p) {
         return p;
     }
