@@ -1,8 +1,9 @@
 -- A turn's parts, as the code makes them: what a car tells, its moves, where it is left. proofs/Parts.antt has that they are the turn's.
 use mathlib.Core.Path.{_≡_}
-use mathlib.Core.Bool.{cond}
+use mathlib.Core.Bool.{false, true, cond}
 use mathlib.Core.List.{List}
 use Prim.Native.Nat.{ℕ}
+use lib.Dec.{eqb}
 use lib.ListN.{length}
 use lib.Ieee.{Float}
 use Rattle.motion.specs.declared.movement.MovementResult.{MovementResult}
@@ -11,12 +12,26 @@ use Rattle.world.specs.declared.LineKind.{LineKind}
 use Rattle.log.specs.Log.{Wrote}
 use Rattle.steps.specs.Steps.{plus, lampsOf, Step, notOpened}
 use Rattle.steps.specs.declared.Lamps.{Lamps}
+use Rattle.float.specs.Float as Float
 use Rattle.trips.specs.Spans.{movingUp}
+use Rattle.trips.specs.declared.span.Span.{Span}
+use Rattle.trips.specs.declared.span.Span.the-variants.{Range, Seam}
 use Rattle.trips.specs.declared.Trip.{Trip}
 use Rattle.movement_system.specs.Passing.{passingWords}
 use Rattle.movement_system.specs.Movement.{movedCar, passedOver}
 use Rattle.movement_system.specs.declared.Emitted.{Emitted}
+use Rattle.movement_system.specs.declared.Ends.{Ends}
 use Rattle.moves.specs.Moves.{come, comes, goal, swept, comingWords, distanceBy}
+
+-- a span's ranges one by one, as the code goes through them
+abbrev pub rangeCount : Span → ℕ
+rangeCount (Range lo hi) = 1
+rangeCount (Seam old circumference new) = 2
+
+abbrev pub rangeAt : Span → ℕ → Ends
+rangeAt (Range lo hi) k = record { lo = lo; hi = hi; inclusive = false }
+rangeAt (Seam old circumference new) k =
+    cond (eqb k 0) (record { lo = old; hi = circumference; inclusive = false }) (record { lo = Float.zero; hi = new; inclusive = true })
 
 -- the stops passed
 abbrev pub passedBy : Trip → LineKind → List Float → ℕ → Float → MovementResult → List ℕ
