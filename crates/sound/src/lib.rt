@@ -100,6 +100,9 @@ pub fn line_broken(stops: usize, line: Line) -> bool
     if 64 < count {
         return true;
     }
+    if count == 0 {
+        return false;
+    }
     let serves = line.serves;
     one_unloaded(&serves, count, stops)
 }
@@ -194,10 +197,12 @@ pub fn broken(world: World) -> bool
     let stops = world.stop_count;
     let lines = world.lines;
     let cars = world.cars;
+    let found = lines_broken(stops, lines, world.line_count)
+        | cars_broken(world.line_count, stops, cars, world.car_count);
+    let calls = calls_unloaded(stops, world.up_calls) | calls_unloaded(stops, world.down_calls);
+    if world.rider_count == 0 {
+        return found | calls; // the riders are not copied
+    }
     let riders = world.riders;
-    lines_broken(stops, lines, world.line_count)
-        | cars_broken(world.line_count, stops, cars, world.car_count)
-        | riders_broken(stops, world.car_count, riders, world.rider_count)
-        | calls_unloaded(stops, world.up_calls)
-        | calls_unloaded(stops, world.down_calls)
+    found | riders_broken(stops, world.car_count, riders, world.rider_count) | calls
 }

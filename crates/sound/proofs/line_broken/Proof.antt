@@ -2,7 +2,7 @@
 use mathlib.Core.Path.{_≡_, sym}
 use native.Mathlib.Omega.{arith}
 use lib.ListN.{length}
-use Rattle.sound.specs.Sound.{lineBroken}
+use Rattle.sound.specs.Sound.{lineBroken, anyTo}
 use borrow.Author.Tests.{lt-ltb, le-ltb}
 use borrow.Author.Needs.{needs}
 use Rattle.sound.proofs.line_broken.Statement.{statement}
@@ -17,9 +17,13 @@ unfolding lineBroken
 returns c = rw (lt-ltb 64 (c .before .args .line .«serves_count») (c .if1 .taken))
 
 returns-2 : tie.Need-returns-2
+unfolding lineBroken anyTo
+returns-2 c = rw (c .if2 .taken)
+
+returns-3 : tie.Need-returns-3
 unfolding lineBroken
-returns-2 c =
-    let b = c .before .before .before in
+returns-3 c =
+    let b = c .before .before .before .before in
     rw (le-ltb 64 (b .before .args .line .«serves_count») (b .if1 .left), c .one-unloaded .ensures)
 
 pub line-broken-spec : {M : Type 1} → statement M
@@ -27,6 +31,7 @@ line-broken-spec =
     tie.close
     (tie.spec
     returns
-    (λ c. sym (places (c .before .before .before)))
-    (λ c κs. omega (arith, places (c .before .before .before), c .before .before .if1 .left))
-    returns-2)
+    returns-2
+    (λ c. sym (places (c .before .before .before .before)))
+    (λ c κs. omega (arith, places (c .before .before .before .before), c .before .before .before .if1 .left))
+    returns-3)
