@@ -16,21 +16,26 @@ pub or-right : (a b : Bool) → (a || b) ≡ false → b ≡ false
 or-right true b h = yes h
 or-right false b h = h
 
--- the tests as the code puts them together, the calls' two apart; without riders, and with them
-or-last : (x u d : Bool) → (x || (u || d)) ≡ ((x || u) || d)
-or-last true u d = refl
-or-last false u d = refl
-
+-- the tests as the code puts them together, the riders' last; without riders, and with them
 or-none : (x : Bool) → x ≡ (x || false)
 or-none true = refl
 or-none false = refl
 
-pub without : {l c u d l′ c′ u′ d′ : Bool} → l ≡ l′ → c ≡ c′ → u ≡ u′ → d ≡ d′ → ((l || c) || (u || d)) ≡ ((((l′ || c′) || false) || u′) || d′)
-without {l} {c} {u} {d} e f g h = rw (← e, ← f, ← g, ← h, ← or-none (l || c)) (or-last (l || c) u d)
+or-moved : (x u d r : Bool) → (((x || u) || d) || r) ≡ (((x || r) || u) || d)
+or-moved true u d r = refl
+or-moved false true d true = refl
+or-moved false true d false = refl
+or-moved false false true true = refl
+or-moved false false true false = refl
+or-moved false false false true = refl
+or-moved false false false false = refl
+
+pub without : {l c u d l′ c′ u′ d′ : Bool} → l ≡ l′ → c ≡ c′ → u ≡ u′ → d ≡ d′ → (((l || c) || u) || d) ≡ ((((l′ || c′) || false) || u′) || d′)
+without {l} {c} {u} {d} e f g h = rw (← e, ← f, ← g, ← h, ← or-none (l || c))
 
 pub with-riders : {l c r u d l′ c′ r′ u′ d′ : Bool} → l ≡ l′ → c ≡ c′ → r ≡ r′ → u ≡ u′ → d ≡ d′
-    → (((l || c) || r) || (u || d)) ≡ ((((l′ || c′) || r′) || u′) || d′)
-with-riders {l} {c} {r} {u} {d} e f i g h = rw (← e, ← f, ← i, ← g, ← h) (or-last ((l || c) || r) u d)
+    → ((((l || c) || u) || d) || r) ≡ ((((l′ || c′) || r′) || u′) || d′)
+with-riders {l} {c} {r} {u} {d} e f i g h = rw (← e, ← f, ← i, ← g, ← h) (or-moved (l || c) u d r)
 
 -- the counts of a world whose counts are not broken
 pub record Counts (w : World) : Type 0 where

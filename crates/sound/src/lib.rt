@@ -198,11 +198,12 @@ pub fn broken(world: World) -> bool
     let lines = world.lines;
     let cars = world.cars;
     let found = lines_broken(stops, lines, world.line_count)
-        | cars_broken(world.line_count, stops, cars, world.car_count);
-    let calls = calls_unloaded(stops, world.up_calls) | calls_unloaded(stops, world.down_calls);
+        | cars_broken(world.line_count, stops, cars, world.car_count)
+        | calls_unloaded(stops, world.up_calls)
+        | calls_unloaded(stops, world.down_calls);
     if world.rider_count == 0 {
-        return found | calls; // the riders are not copied
+        return found; // the riders are not copied
     }
     let riders = world.riders;
-    found | riders_broken(stops, world.car_count, riders, world.rider_count) | calls
+    found | riders_broken(stops, world.car_count, riders, world.rider_count)
 }
