@@ -12,17 +12,21 @@ use Rattle.float.proofs.Cases.{and-left, and-right}
 use Rattle.world.specs.declared.World.{World}
 use Rattle.log.specs.Log.{Wrote}
 use Rattle.log.proofs.Writing.{wrote-none, wrote-length, wrote-fits, also}
+use Rattle.record.specs.Record as Record
 use Rattle.record.specs.Record.{Outcome, recordOf, isAccepted, usedOf}
+use Rattle.record.specs.declared.Recorded.{Recorded}
 use Rattle.record.specs.Conditions.{Kept, FirstCondition}
 use Rattle.record.proofs.Answering.{first-condition}
 use Rattle.report.specs.Report.{bit}
+use Rattle.report.specs.declared.Counts.{Counts}
 use Rattle.study_text.specs.Text.{wordsOf}
 use Rattle.study_text.proofs.Putting.{take-min}
-use Rattle.play.specs.declared.Step.{Step}
-use Rattle.play.specs.Play.{told, countsAfter, ending, Stepped}
+use Rattle.play.specs.declared.Told.{Told}
+use Rattle.play.specs.Play.{told, countsAfter, ending, Tells}
 use Rattle.pieces.specs.Pieces.{Playing, after, nextRecord, ready, goes, playTo, ends, closed, close, advanced, playing, Gives}
 use Rattle.pieces.specs.Parts.{Reached, ClosesBy, Closes}
 use Rattle.pieces.specs.declared.Study.{Study}
+use Rattle.pieces.specs.declared.Step.{Step}
 use Rattle.pieces.specs.declared.Played.{Played}
 use Rattle.pieces.specs.declared.Closed.{Closed}
 use Rattle.pieces.specs.declared.Advanced.{Advanced}
@@ -36,12 +40,12 @@ here s log piece from text = record {
   log = log;
   bytes = drop (4 * from) piece;
   text = text;
-  over = s .refused;
+  over = s .over;
 }
 
 -- before the first record
 abbrev pub begun : Study → Step
-begun s = record { world = s .world; counts = s .counts; used = 0; at = 0; refused = s .over }
+begun s = record { world = s .world; counts = s .counts; at = 0; over = s .over }
 
 -- what is left to do, in words, and in one more turn where no refusal was met
 abbrev pub left : List ℕ → ℕ → Bool → ℕ
@@ -55,7 +59,7 @@ pub record Going (ended : Bool) (p₀ : Playing) (piece out₀ log out : List �
   pub lent : length log ≡ 2048
   pub buffer : length out₀ ≡ 65536
   pub fuel : ℕ
-  pub enough : left piece from (s .refused) < fuel
+  pub enough : left piece from (s .over) < fuel
   pub same : playTo (2 + length piece) ended p₀ ≡ playTo fuel ended (here s log piece from text)
 
 bit-small : (b : Bool) → bit b ≤ 1
@@ -72,11 +76,35 @@ going ended piece out log s e l o = record {
   lent = l;
   buffer = o;
   fuel = 2 + length piece;
-  enough = omega (arith, words-few piece, bit-small (not (s .refused)));
+  enough = omega (arith, words-few piece, bit-small (not (s .over)));
   same = refl;
 }
 
 -- ---- one more record
+
+-- after a call that gives this outcome, which used so many words: its text stands in the buffer
+pub record Stepped (o : Outcome) (c : Counts) (out : List ℕ) (at : ℕ) (s : Step) (n : ℕ) (out′ : List ℕ) : Type 0 where
+  pub world : s .world ≡ o .world
+  pub counts : s .counts ≡ countsAfter (o .answer) (o .log) c
+  pub used : n ≡ usedOf (o .answer)
+  pub over : s .over ≡ not (isAccepted (o .answer))
+  pub text : Wrote out at (told (o .answer) (o .log)) out′ (s .at)
+
+-- what the code holds then: the world of what the call made, and what is told of its answer
+abbrev pub holds : Recorded → Counts → ℕ → Bool → Step
+holds made c at over = record { world = made .world; counts = c; at = at; over = over }
+
+pub stepped : (o : Outcome) (made : Recorded) (log′ out out′ : List ℕ) (c : Counts) (at : ℕ) (t : Told)
+    → Record.Gives made log′ o
+    → Tells (made .answer) log′ c out at t out′
+    → Stepped o c out at (holds made (t .counts) (t .at) (t .refused)) (t .used) out′
+stepped o made log′ out out′ c at t g k = record {
+  world = g .world;
+  counts = rw (← g .answer, ← g .log) (k .counts);
+  used = rw (← g .answer) (k .used);
+  over = rw (← g .answer) (k .refused);
+  text = rw (← g .answer, ← g .log) (k .text);
+}
 
 pub not-true : (b : Bool) → not b ≡ true → b ≡ false
 not-true true h = sym h
@@ -107,14 +135,14 @@ drop-on piece from used = drop-drop (4 * used) (4 * from) piece ∙ ap (λ (n : 
     sum a b = omega arith
 
 -- the next record, by what the code's step gives
-next-here : (s s′ : Step) (log log′ out out′ piece text : List ℕ) (from : ℕ)
+next-here : (s s′ : Step) (log log′ out out′ piece text : List ℕ) (from used : ℕ)
     → log′ ≡ recordOf (s .world) (drop from (wordsOf piece)) log .log
-    → Stepped (recordOf (s .world) (drop from (wordsOf piece)) log) (s .counts) out (s .at) s′ out′
+    → Stepped (recordOf (s .world) (drop from (wordsOf piece)) log) (s .counts) out (s .at) s′ used out′
     → nextRecord (here s log piece from text)
-    ≡ here s′ log′ piece (from + s′ .used) (text ++ told (recordOf (s .world) (drop from (wordsOf piece)) log .answer) (recordOf (s .world) (drop from (wordsOf piece)) log .log))
+    ≡ here s′ log′ piece (from + used) (text ++ told (recordOf (s .world) (drop from (wordsOf piece)) log .answer) (recordOf (s .world) (drop from (wordsOf piece)) log .log))
 unfolding nextRecord
-next-here s s′ log log′ out out′ piece text from el st =
-    rw (words-from, el, st .world, st .counts, st .refused, st .used, drop-on)
+next-here s s′ log log′ out out′ piece text from used el st =
+    rw (words-from, el, st .world, st .counts, st .over, st .used, drop-on)
 
 module _ (ended : Bool) (piece log : List ℕ) (s : Step) (from : ℕ) where
   -- the record call's answer there
@@ -125,16 +153,16 @@ module _ (ended : Bool) (piece log : List ℕ) (s : Step) (from : ℕ) where
   unfolding FirstCondition
   kept-there = first-condition (s .world) (drop from (wordsOf piece)) log
 
-  stands : goes ended (s .refused) (length (wordsOf piece) - from) (s .at) ≡ true → s .refused ≡ false
-  stands e = not-true (s .refused) (and-left (not (s .refused)) _ e)
+  stands : goes ended (s .over) (length (wordsOf piece) - from) (s .at) ≡ true → s .over ≡ false
+  stands e = not-true (s .over) (and-left (not (s .over)) _ e)
 
   -- fewer words are left, or the turn was the last
-  pub fewer : (s′ : Step) (out out′ : List ℕ)
-      → goes ended (s .refused) (length (wordsOf piece) - from) (s .at) ≡ true
+  pub fewer : (s′ : Step) (used : ℕ) (out out′ : List ℕ)
+      → goes ended (s .over) (length (wordsOf piece) - from) (s .at) ≡ true
       → from ≤ length (wordsOf piece)
-      → Stepped met (s .counts) out (s .at) s′ out′
-      → left piece (from + s′ .used) (s′ .refused) < left piece from (s .refused)
-  fewer s′ out out′ e h st = rw (stands e, st .refused, st .used) (go (isAccepted (met .answer)) refl)
+      → Stepped met (s .counts) out (s .at) s′ used out′
+      → left piece (from + used) (s′ .over) < left piece from (s .over)
+  fewer s′ used out out′ e h st = rw (stands e, st .over, st .used) (go (isAccepted (met .answer)) refl)
     where
       bound : usedOf (met .answer) ≤ length (wordsOf piece) - from
       bound = rw length-drop at (kept-there .used)
@@ -143,19 +171,19 @@ module _ (ended : Bool) (piece log : List ℕ) (s : Step) (from : ℕ) where
       go true k = omega (arith, kept-there .some k, bound, h)
       go false k = omega arith
 
-  pub turn : (p₀ : Playing) (out₀ out log′ out′ : List ℕ) (s′ : Step)
+  pub turn : (p₀ : Playing) (out₀ out log′ out′ : List ℕ) (s′ : Step) (used : ℕ)
       → Going ended p₀ piece out₀ log out s from
-      → goes ended (s .refused) (length (wordsOf piece) - from) (s .at) ≡ true
+      → goes ended (s .over) (length (wordsOf piece) - from) (s .at) ≡ true
       → log′ ≡ met .log
-      → Stepped met (s .counts) out (s .at) s′ out′
-      → Going ended p₀ piece out₀ log′ out′ s′ (from + s′ .used)
-  turn p₀ out₀ out log′ out′ s′ g e el st =
-      let place : s .at < 32768 = ltb-true (s .at) 32768 (and-right (ready ended (length (wordsOf piece) - from)) (ltb (s .at) 32768) (and-right (not (s .refused)) _ e)) in
+      → Stepped met (s .counts) out (s .at) s′ used out′
+      → Going ended p₀ piece out₀ log′ out′ s′ (from + used)
+  turn p₀ out₀ out log′ out′ s′ used g e el st =
+      let place : s .at < 32768 = ltb-true (s .at) 32768 (and-right (ready ended (length (wordsOf piece) - from)) (ltb (s .at) 32768) (and-right (not (s .over)) _ e)) in
       let lent : length (met .log) ≡ 2048 = kept-there .size ∙ g .lent in
       let short : length (told (met .answer) (met .log)) ≤ 18432 = told-length (met .answer) (met .log) lent in
       let buffer : length out ≡ 65536 = wrote-length (g .wrote) ∙ g .buffer in
       let last : g .fuel ≡ suc (g .fuel - 1) = omega (arith, g .enough) in
-      let goes-on : goes ended (s .refused) (length (wordsOf (drop (4 * from) piece))) (length (g .text)) ≡ true = rw (count-from piece from, ← g .at) e in
+      let goes-on : goes ended (s .over) (length (wordsOf (drop (4 * from) piece))) (length (g .text)) ≡ true = rw (count-from piece from, ← g .at) e in
       record {
         text = g .text ++ told (met .answer) (met .log);
         wrote = also (g .wrote) (st .text);
@@ -164,16 +192,16 @@ module _ (ended : Bool) (piece log : List ℕ) (s : Step) (from : ℕ) where
         lent = ap length el ∙ lent;
         buffer = g .buffer;
         fuel = g .fuel - 1;
-        enough = omega (arith, g .enough, fewer s′ out out′ e (g .within) st);
+        enough = omega (arith, g .enough, fewer s′ used out out′ e (g .within) st);
         same = g .same
             ∙ ap (λ (n : ℕ). playTo n ended (here s log piece from (g .text))) last
             ∙ play-goes ended (g .fuel - 1) (here s log piece from (g .text)) goes-on
-            ∙ ap (playTo (g .fuel - 1) ended) (next-here s s′ log log′ out out′ piece (g .text) from el st);
+            ∙ ap (playTo (g .fuel - 1) ended) (next-here s s′ log log′ out out′ piece (g .text) from used el st);
       }
 
 -- the loop's end
 stopped : (ended : Bool) (p₀ : Playing) (piece out₀ log out : List ℕ) (s : Step) (from : ℕ) (g : Going ended p₀ piece out₀ log out s from)
-    → goes ended (s .refused) (length (wordsOf piece) - from) (s .at) ≡ false
+    → goes ended (s .over) (length (wordsOf piece) - from) (s .at) ≡ false
     → playTo (2 + length piece) ended p₀ ≡ here s log piece from (g .text)
 stopped ended p₀ piece out₀ log out s from g e = g .same ∙ play-stops ended (g .fuel) (here s log piece from (g .text)) (rw (count-from piece from, ← g .at) e)
 
@@ -183,7 +211,7 @@ rest-of piece words from e = take-all (length words - from) (drop from words) (r
 
 pub reached : (ended : Bool) (p₀ : Playing) (piece out₀ log out : List ℕ) (s : Step) (from : ℕ)
     → Going ended p₀ piece out₀ log out s from
-    → goes ended (s .refused) (length (wordsOf piece) - from) (s .at) ≡ false
+    → goes ended (s .over) (length (wordsOf piece) - from) (s .at) ≡ false
     → Reached (record { step = s; from = from }) piece out₀ log out (playTo (2 + length piece) ended p₀)
 reached ended p₀ piece out₀ log out s from g e =
     rw (stopped ended p₀ piece out₀ log out s from g e)
@@ -204,7 +232,7 @@ pub at-end : (e : Bool) (s : Step) (left : ℕ) (out out′ : List ℕ) (at : �
     → ClosesBy e s left out (record { at = at; over = true }) out′
 at-end e s left out out′ at t w = rw t (record { over = refl; text = w })
 
-pub not-at-end : (e : Bool) (s : Step) (left : ℕ) (out : List ℕ) → e ≡ false → ClosesBy e s left out (record { at = s .at; over = s .refused }) out
+pub not-at-end : (e : Bool) (s : Step) (left : ℕ) (out : List ℕ) → e ≡ false → ClosesBy e s left out (record { at = s .at; over = s .over }) out
 not-at-end e s left out t = rw t (record { over = refl; text = wrote-none })
 
 -- the records, then the tape's end, then the bytes that are kept
@@ -223,7 +251,7 @@ module _ (piece out lent′ out₁ out′ piece′ : List ℕ) (end : ℕ) (ende
   unfolding close
   closes p o h g k w =
       rw same-test
-      (go (ends ended (r .step .refused) ((end - r .from * 4) / 4) (r .step .at)) refl k)
+      (go (ends ended (r .step .over) ((end - r .from * 4) / 4) (r .step .at)) refl k)
     where
       four : r .from * 4 ≡ 4 * r .from
       four = omega arith
@@ -231,7 +259,7 @@ module _ (piece out lent′ out₁ out′ piece′ : List ℕ) (end : ℕ) (ende
       left-is : length (p .bytes) ≡ end - r .from * 4
       left-is = rw (← g .bytes) (simp (length-drop, length-take) (omega arith))
 
-      same-test : ends ended (p .over) (length (wordsOf (p .bytes))) (length (p .text)) ≡ ends ended (r .step .refused) ((end - r .from * 4) / 4) (r .step .at)
+      same-test : ends ended (p .over) (length (wordsOf (p .bytes))) (length (p .text)) ≡ ends ended (r .step .over) ((end - r .from * 4) / 4) (r .step .at)
       same-test = rw (← g .over, ← g .at, words-of-count (p .bytes), left-is)
 
       held-is : Wrote piece 0 (p .bytes) piece′ kept
@@ -240,9 +268,9 @@ module _ (piece out lent′ out₁ out′ piece′ : List ℕ) (end : ℕ) (ende
       all-fits : length (p .text) ≤ length out
       all-fits = omega (arith, g .text .next, g .at)
 
-      go : (e : Bool) → ends ended (r .step .refused) ((end - r .from * 4) / 4) (r .step .at) ≡ e → ClosesBy e (r .step) (end - r .from * 4) out₁ cl out′ → Gives made piece out piece′ lent′ out′ (cond e (closed p) p)
+      go : (e : Bool) → ends ended (r .step .over) ((end - r .from * 4) / 4) (r .step .at) ≡ e → ClosesBy e (r .step) (end - r .from * 4) out₁ cl out′ → Gives made piece out piece′ lent′ out′ (cond e (closed p) p)
       go true e k =
-          let small : r .step .at < 32768 = ltb-true (r .step .at) 32768 (and-right (eqb ((end - r .from * 4) / 4) 0) _ (and-right (not (r .step .refused)) _ (and-right ended _ e))) in
+          let small : r .step .at < 32768 = ltb-true (r .step .at) 32768 (and-right (eqb ((end - r .from * 4) / 4) 0) _ (and-right (not (r .step .over)) _ (and-right ended _ e))) in
           record {
             world = g .world;
             counts = g .counts;

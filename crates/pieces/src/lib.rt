@@ -7,9 +7,11 @@ ghost use lib.ListN.{length, take};
 ghost use Rattle.pieces.specs.Pieces.{Gives, advanced, playing, playTo, fresh};
 ghost use Rattle.pieces.specs.Pieces.{goes as goesOn};
 ghost use Rattle.pieces.specs.Parts.{Reached, Closes};
-use play::Step;
+use lent::turn;
 use play::finish;
-use play::play_record;
+use play::tell_answer;
+use record::Answer;
+use record::Recorded;
 use report::Counts;
 use report::no_counts;
 use study_text::keep;
@@ -49,13 +51,22 @@ fn goes(ended: bool, over: bool, words: usize, at: usize) -> bool
     !over & (((69 <= words) | (ended & (0 < words))) & (at < 32768))
 }
 
+// After the records: the world and the counts, the next place in the text, and whether one was refused or the study was over before.
+struct Step {
+    world: World,
+    counts: Counts,
+    at: usize,
+    over: bool,
+}
+
 // Where the records ended.
 struct Played {
     step: Step,
     from: usize,
 }
 
-// The records of the piece, whose words these are, as long as the next one is ready and its text has room.
+// The records of the piece, whose words these are, as long as the next one is ready and its text has room. What a call made stays where it is, and its
+// world is handed to the next call.
 fn play_words(
     study: Study,
     piece: &[u8],
@@ -68,22 +79,35 @@ fn play_words(
     ensures { λ r. ⌜ Reached r (now (piece .entry)) (now (out .entry)) (now (log .exit)) (now (out .exit)) (playTo (2 + length (now (piece .entry))) ended (playing study (now (log .entry)) (now (piece .entry)))) ⌝ }
 {
     let end = words.len();
-    let world = study.world;
-    let counts = study.counts;
-    let mut step = Step {
+    let nothing = Answer::Accepted {
+        used: 0,
+        written: 0,
+    };
+    let begun = study.world;
+    let mut made = Recorded {
+        answer: nothing,
+        world: begun,
+    };
+    let mut counts = study.counts;
+    let mut at: usize = 0;
+    let mut over = study.over;
+    let mut from: usize = 0;
+    while goes(ended, over, end - from, at) {
+        made = turn(made.world, &words[from..end], log);
+        let answer = made.answer;
+        let told = tell_answer(answer, counts, log, out, at);
+        counts = told.counts;
+        at = told.at;
+        over = told.refused;
+        from += told.used;
+    }
+    let world = made.world;
+    let step = Step {
         world,
         counts,
-        used: 0,
-        at: 0,
-        refused: study.over,
+        at,
+        over,
     };
-    let mut from: usize = 0;
-    while goes(ended, step.refused, end - from, step.at) {
-        let kept = step.world;
-        let counted = step.counts;
-        step = play_record(kept, counted, &words[from..end], log, out, step.at);
-        from += step.used;
-    }
     Played { step, from }
 }
 
@@ -108,7 +132,7 @@ struct Closed {
 fn close(step: Step, ended: bool, left: usize, out: &mut [u8]) -> Closed
     ensures { λ r. ⌜ Closes step ended left (now (out .entry)) r (now (out .exit)) ⌝ }
 {
-    if ended & (!step.refused & ((left / 4 == 0) & (step.at < 32768))) {
+    if ended & (!step.over & ((left / 4 == 0) & (step.at < 32768))) {
         let world = step.world;
         let counts = step.counts;
         return Closed {
@@ -118,7 +142,7 @@ fn close(step: Step, ended: bool, left: usize, out: &mut [u8]) -> Closed
     }
     Closed {
         at: step.at,
-        over: step.refused,
+        over: step.over,
     }
 }
 

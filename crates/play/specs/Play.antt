@@ -7,7 +7,7 @@ use lib.ListN.{take}
 use Rattle.world.specs.declared.World.{World}
 use Rattle.world.specs.declared.refusal.Refusal.the-variants.{CutShort}
 use Rattle.log.specs.Log.{Wrote}
-use Rattle.record.specs.Record.{Outcome, recordOf, isAccepted, usedOf}
+use Rattle.record.specs.Record.{isAccepted, usedOf}
 use Rattle.record.specs.declared.Answer.{Answer}
 use Rattle.record.specs.declared.Answer.the-variants.{Accepted, Refused}
 use Rattle.report.specs.Report.{countMore, countedReport}
@@ -15,7 +15,7 @@ use Rattle.report.specs.declared.Counts.{Counts}
 use Rattle.report.specs.declared.Reported.{Reported}
 use Rattle.report.specs.declared.Reported.the-variants as Reported
 use Rattle.study_text.specs.Text.{wordLines, reportLine, refusedLine}
-use Rattle.play.specs.declared.Step.{Step}
+use Rattle.play.specs.declared.Told.{Told}
 
 -- ---- a record
 
@@ -29,17 +29,12 @@ abbrev pub countsAfter : Answer → List ℕ → Counts → Counts
 countsAfter (Accepted used written) log c = countMore c (take written log)
 countsAfter (Refused r) log c = c
 
--- the step that is made of an answer, the world and the log after it: the text goes into `out` from `at` on, and `out′` is the buffer then
-pub record StepOf (a : Answer) (w : World) (log : List ℕ) (c : Counts) (out : List ℕ) (at : ℕ) (s : Step) (out′ : List ℕ) : Type 0 where
-  pub world : s .world ≡ w
-  pub counts : s .counts ≡ countsAfter a log c
-  pub used : s .used ≡ usedOf a
-  pub refused : s .refused ≡ not (isAccepted a)
-  pub text : Wrote out at (told a log) out′ (s .at)
-
--- of what the record call gives
-abbrev pub Stepped : Outcome → Counts → List ℕ → ℕ → Step → List ℕ → Type 0
-Stepped o c out at s out′ = StepOf (o .answer) (o .world) (o .log) c out at s out′
+-- what the code tells of an answer and the log after it: the text goes into `out` from `at` on, and `out′` is the buffer then
+pub record Tells (a : Answer) (log : List ℕ) (c : Counts) (out : List ℕ) (at : ℕ) (t : Told) (out′ : List ℕ) : Type 0 where
+  pub counts : t .counts ≡ countsAfter a log c
+  pub used : t .used ≡ usedOf a
+  pub refused : t .refused ≡ not (isAccepted a)
+  pub text : Wrote out at (told a log) out′ (t .at)
 
 -- ---- the end of a tape
 
