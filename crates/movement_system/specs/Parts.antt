@@ -1,4 +1,4 @@
--- A turn's parts, as the code makes them: what a car tells, its moves, where it is left. proofs/Parts.antt has that they are the turn's.
+-- A turn's parts, as the code makes them: what a car tells, its moves, where it is left, a span's ranges. proofs/Parts.antt has that they are the turn's, proofs/Emitting.antt that the ranges are the span's.
 use mathlib.Core.Path.{_≡_}
 use mathlib.Core.Bool.{false, true, cond}
 use mathlib.Core.List.{List}
