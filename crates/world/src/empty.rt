@@ -86,12 +86,12 @@ pub fn empty() -> World
     let riders = [rider; 128];
     World {
         stops: [0.0f64; 64],
-        stop_count: 0,
         lines,
-        line_count: 0,
         cars,
-        car_count: 0,
         riders,
+        stop_count: 0,
+        line_count: 0,
+        car_count: 0,
         rider_count: 0,
         up_calls: 0,
         down_calls: 0,

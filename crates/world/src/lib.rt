@@ -128,13 +128,14 @@ pub struct Rider {
 }
 
 pub struct World {
+    // the tables side by side, so that a copy of the world is one move of memory
     pub stops: [f64; 64],
-    pub stop_count: usize,
     pub lines: [Line; 8],
-    pub line_count: usize,
     pub cars: [Car; 16],
-    pub car_count: usize,
     pub riders: [Rider; 128],
+    pub stop_count: usize,
+    pub line_count: usize,
+    pub car_count: usize,
     pub rider_count: usize,
     // hall calls standing: bit s is the call at stop s
     pub up_calls: u64,
