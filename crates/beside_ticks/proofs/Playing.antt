@@ -10,8 +10,8 @@ use Rattle.world.specs.World.{emptyWorld}
 use Rattle.world.specs.declared.World.{World}
 use Rattle.record.specs.declared.Recorded.{Recorded}
 use Rattle.record.specs.Record.{Gives, recordOf, usedOf, writtenOf}
-use Rattle.record.specs.Conditions.{FirstCondition}
-use Rattle.record.proofs.Answering.{first-condition}
+use Rattle.conditions.specs.Conditions.{FirstCondition}
+use Rattle.conditions.proofs.Answering.{first-condition}
 use Rattle.steps.specs.Steps.{plus}
 use Rattle.beside_ticks.specs.Bench.{Playing, playedTo, Reached}
 

@@ -21,8 +21,8 @@ use Rattle.changes.specs.Changes.{start}
 use Rattle.record.specs.declared.Answer.{Answer}
 use Rattle.record.specs.Record.{Outcome, recordOf, tickOnce}
 use Rattle.record.specs.Calls.{Call, outcome, next, worldAfter}
-use Rattle.record.specs.Conditions.{Kept, FirstCondition}
-use Rattle.record.proofs.Answering.{first-condition}
+use Rattle.conditions.specs.Conditions.{Kept, FirstCondition}
+use Rattle.conditions.proofs.Answering.{first-condition}
 use Rattle.lent.specs.Lent.{Lent, Made, InTurn, given, gave, left, outcomes, AsCalled, FirstLent, three, Three, Shown, LentCalls}
 
 -- an outcome is its three parts

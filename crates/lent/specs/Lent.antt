@@ -10,7 +10,7 @@ use Rattle.record.specs.declared.Answer.{Answer}
 use Rattle.record.specs.declared.Answer.the-variants.{Accepted, Refused}
 use Rattle.record.specs.Record.{Outcome, recordOf}
 use Rattle.record.specs.Calls.{Call, outcome, next, worldAfter}
-use Rattle.record.specs.Conditions.{Kept}
+use Rattle.conditions.specs.Conditions.{Kept}
 
 -- a call that is lent the world `w`, the words and the log: its answer, the world and the log as it leaves them
 pub record Lent (w : World) (words lent : List ℕ) (a : Answer) (w′ : World) (lent′ : List ℕ) : Type 0 where

@@ -15,8 +15,8 @@ use Rattle.log.proofs.Writing.{wrote-none, wrote-length, wrote-fits, also}
 use Rattle.record.specs.Record as Record
 use Rattle.record.specs.Record.{Outcome, recordOf, isAccepted, usedOf}
 use Rattle.record.specs.declared.Recorded.{Recorded}
-use Rattle.record.specs.Conditions.{Kept, FirstCondition}
-use Rattle.record.proofs.Answering.{first-condition}
+use Rattle.conditions.specs.Conditions.{Kept, FirstCondition}
+use Rattle.conditions.proofs.Answering.{first-condition}
 use Rattle.report.specs.Report.{bit}
 use Rattle.report.specs.declared.Counts.{Counts}
 use Rattle.study_text.specs.Text.{wordsOf}

@@ -1,6 +1,7 @@
 -- What a call gives, case by case. Assumes nothing.
 use mathlib.Core.Path.{_≡_, refl, sym, _∙_, ap, subst}
-use mathlib.Core.Bool.{Bool, true, false, not, true≢false, cond}
+use mathlib.Core.Bool.{Bool, true, false, not, _||_, true≢false, cond}
+use Rattle.float.proofs.Cases.{yes}
 use mathlib.Core.List.{List}
 use native.Mathlib.Nat.{mul-le-mul}
 use native.Mathlib.Omega.{arith}
@@ -24,7 +25,20 @@ use Rattle.tick.proofs.Proved.{words-fit}
 use Rattle.record.specs.declared.Recorded.{Recorded}
 use Rattle.record.specs.declared.Answer.the-variants.{Accepted, Refused}
 use Rattle.record.specs.Record.{Outcome, Gives, accepted, refused, answerOf, changed, tickOnce, taken, recordOf}
-use Rattle.record.specs.Parts.{Few, readFrom}
+use Rattle.record.specs.Parts.{Few, Asks, readFrom}
+use Rattle.record.specs.declared.Asked.{Asked}
+
+pub or-more : (a b c : Bool) → ((a || b) || c) ≡ (a || (b || c))
+or-more true b c = refl
+or-more false b c = refl
+
+pub is-no : (b : Bool) → not b ≡ true → b ≡ false
+is-no true h = yes (sym h)
+is-no false h = refl
+
+pub is-yes : (b : Bool) → not b ≡ false → b ≡ true
+is-yes true h = refl
+is-yes false h = yes h
 
 -- a refusal: the answer, and the world as it was
 abbrev pub Says : Recorded → World → Refusal → Type 0
@@ -32,6 +46,44 @@ Says r w f = (r .answer ≡ Refused f) × (r .world ≡ w)
 
 refusal-gives : {r : Recorded} {w : World} {log : List ℕ} {f : Refusal} → Says r w f → Gives r log (refused w log f)
 refusal-gives h = record { answer = h .0; world = h .1; log = refl }
+
+-- ---- what becomes of a tick's record
+
+module _ (w : World) where
+  -- it is refused with f
+  abbrev Declines : Asked → Refusal → Type 0
+  Declines a f = (a .taken ≡ false) × (a .refusal ≡ f)
+
+  declines : {a : Asked} {f : Refusal} {room : ℕ} {o : List ℕ → Outcome} → ((l : List ℕ) → length l ≡ room → o l ≡ refused w l f) → Declines a f → Asks w room a o
+  declines e h = record { same = λ l z. rw (h .0, h .1) (e l z); fits = λ t. absurd (true≢false (sym t ∙ h .0)) }
+
+  pub tick-not-now : {a : Asked} (room used : ℕ) (dt : Float) → not (w .started) ≡ true → Declines a NotNow → Asks w room a (λ l. tickOnce w l used dt)
+  unfolding tickOnce
+  tick-not-now room used dt e h = declines (λ l z. rw e) h
+
+  pub tick-last : {a : Asked} (room used : ℕ) (dt : Float) →
+      not (w .started) ≡ false → 2 ^ 28 ≤ w .ticks → Declines a LastTick → Asks w room a (λ l. tickOnce w l used dt)
+  unfolding tickOnce
+  tick-last room used dt e t h = declines (λ l z. rw (e, le-leb (2 ^ 28) (w .ticks) t)) h
+
+  pub tick-short : {a : Asked} (room used : ℕ) (dt : Float) →
+      not (w .started) ≡ false → w .ticks < 2 ^ 28 → room < roomOf w → Declines a LogShort → Asks w room a (λ l. tickOnce w l used dt)
+  unfolding tickOnce
+  tick-short room used dt e t s h = declines (λ l z. rw (e, lt-leb (2 ^ 28) (w .ticks) t, z, lt-ltb room (roomOf w) s)) h
+
+  pub tick-taken : (room used : ℕ) (dt : Float) (f : Refusal) → not (w .started) ≡ false → w .ticks < 2 ^ 28 → roomOf w ≤ room
+      → Asks w room (record { taken = true; refusal = f; dt = dt; used = used }) (λ l. tickOnce w l used dt)
+  unfolding tickOnce
+  tick-taken room used dt f e t s =
+      record { same = λ l z. rw (e, lt-leb (2 ^ 28) (w .ticks) t, z, le-ltb room (roomOf w) s); fits = λ y. s }
+
+  pub ask-refused : {a : Asked} (words : List ℕ) {room : ℕ} {f : Refusal} → decoded words .read ≡ Read.Refused f → Declines a f → Asks w room a (readFrom w words)
+  ask-refused words d h = declines (λ l z. rw d) h
+
+  pub ask-taken : {a : Asked} (words : List ℕ) {room : ℕ} {read : Record} {used : ℕ} →
+      decoded words .read ≡ Read.Accepted read used → Asks w room a (λ l. taken w l used (decoded words .serves) read) → Asks w room a (readFrom w words)
+  ask-taken {a} words {room} {read} {used} d h =
+      record { same = λ l z. rw d (h .same l z); fits = h .fits }
 
 module _ (w : World) (log : List ℕ) where
   -- a first check that holds, and one that does not
@@ -46,32 +98,17 @@ module _ (w : World) (log : List ℕ) where
       changed log used c ≡ o → (r .answer ≡ answerOf (c .taken) used) × (r .world ≡ c .world) → Gives r log o
   as-changed {r} c used e h = subst (λ (x : Outcome). Gives r log x) e (record { answer = h .0; world = h .1; log = refl })
 
-  -- ---- the tick
+  -- what was asked, done
+  pub declined : {a : Asked} {r : Recorded} (words : List ℕ) → Asks w (length log) a (readFrom w words) → a .taken ≡ false → Says r w (a .refusal) → Gives r log (readFrom w words log)
+  declined words k e h = rw (k .same log refl, e) (refusal-gives h)
 
-  pub tick-not-now : {r : Recorded} (used : ℕ) (dt : Float) → not (w .started) ≡ true → Says r w NotNow → Gives r log (tickOnce w log used dt)
-  unfolding tickOnce
-  tick-not-now used dt e h = holds _ e h
-
-  pub tick-last : {r : Recorded} (used : ℕ) (dt : Float) →
-      not (w .started) ≡ false → 2 ^ 28 ≤ w .ticks → Says r w LastTick → Gives r log (tickOnce w log used dt)
-  unfolding tickOnce
-  tick-last used dt e l h = passes NotNow e (holds _ (le-leb (2 ^ 28) (w .ticks) l) h)
-
-  pub tick-short : {r : Recorded} (used : ℕ) (dt : Float) →
-      not (w .started) ≡ false → w .ticks < 2 ^ 28 → length log < roomOf w → Says r w LogShort → Gives r log (tickOnce w log used dt)
-  unfolding tickOnce
-  tick-short used dt e l s h =
-      passes NotNow e (passes LastTick (lt-leb (2 ^ 28) (w .ticks) l) (holds _ (lt-ltb (length log) (roomOf w) s) h))
-
-  pub tick-made : {r : Recorded} {left : List ℕ} {at : ℕ} (used : ℕ) (dt : Float) →
-      not (w .started) ≡ false → w .ticks < 2 ^ 28 → roomOf w ≤ length log → r .answer ≡ Accepted used at → r .world ≡ tickWorld w dt →
-      Wrote log 0 (tickWords w dt) left at → Gives r left (tickOnce w log used dt)
-  unfolding tickOnce WordsFit
-  tick-made {at = at} used dt e l s a n h =
-      let fits : length (tickWords w dt) ≤ roomOf w = words-fit w dt in
-      let all : at ≡ length (tickWords w dt) = omega (arith, h .next, fits, s) in
-      passes NotNow e (passes LastTick (lt-leb (2 ^ 28) (w .ticks) l) (passes LogShort (le-ltb (length log) (roomOf w) s)
-      (record { answer = a ∙ ap (λ (x : ℕ). Accepted used x) all; world = n; log = h .list })))
+  pub ticked-once : {a : Asked} {r : Recorded} {left : List ℕ} {at : ℕ} (words : List ℕ) → Asks w (length log) a (readFrom w words) → a .taken ≡ true
+      → r .answer ≡ Accepted (a .used) at → r .world ≡ tickWorld w (a .dt) → Wrote log 0 (tickWords w (a .dt)) left at → Gives r left (readFrom w words log)
+  unfolding WordsFit
+  ticked-once {a} {at = at} words k e n m h =
+      let fits : length (tickWords w (a .dt)) ≤ roomOf w = words-fit w (a .dt) in
+      let all : at ≡ length (tickWords w (a .dt)) = omega (arith, h .next, fits, k .fits e) in
+      rw (k .same log refl, e) (record { answer = n ∙ ap (λ (x : ℕ). Accepted (a .used) x) all; world = m; log = h .list })
 
   -- ---- the record call
 

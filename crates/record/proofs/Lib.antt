@@ -1,3 +1,2 @@
 pub mod Dispatch
 pub mod Giving
-pub mod Answering

@@ -1,4 +1,3 @@
 pub mod Record
 pub mod Parts
-pub mod Conditions
 pub mod Calls

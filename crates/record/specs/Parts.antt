@@ -1,6 +1,6 @@
 -- Which records a part of the record call takes.
 use mathlib.Core.Path.{_≡_}
-use mathlib.Core.Bool.{Bool, true, false}
+use mathlib.Core.Bool.{Bool, true, false, cond}
 use mathlib.Core.List.{List}
 use Prim.Native.Nat.{ℕ, _≤_}
 use Rattle.world.specs.declared.World.{World}
@@ -8,7 +8,10 @@ use Rattle.changes.specs.declared.Changed.{Changed}
 use Rattle.tape.specs.Tape.{decoded}
 use Rattle.tape.specs.declared.Record.{Record}
 use Rattle.tape.specs.declared.Record.the-variants.{Line, Stop, Car, Rider, Send, Mode, ManualSpeed, DoorCommand, HallCall, Destination, Enable, Tick, Start}
-use Rattle.record.specs.Record.{Outcome, changed, taken, readBy}
+use Rattle.record.specs.Record.{Outcome, changed, refused, ticked, taken, readBy}
+use Rattle.record.specs.declared.Asked.{Asked}
+use Rattle.tick.specs.Room.{roomOf}
+use lib.ListN.{length}
 
 -- kind C
 abbrev pub isTick : Record → Bool
@@ -61,3 +64,14 @@ readFrom w words log = readBy w log (decoded words .serves) (decoded words .read
 -- a world that is not broken has no more
 abbrev pub Few : World → Type 0
 Few w = (w .«car_count» ≤ 16) × (w .«stop_count» ≤ 64)
+
+-- ---- what becomes of a tick's record
+
+-- taken: one tick; else a refusal
+abbrev pub askedFor : World → List ℕ → Asked → Outcome
+askedFor w log a = cond (a .taken) (ticked w log (a .used) (a .dt)) (refused w log (a .refusal))
+
+-- on a log of `room` words; a record that is taken has its room
+pub record Asks (w : World) (room : ℕ) (a : Asked) (o : List ℕ → Outcome) : Type 0 where
+  pub same : (log : List ℕ) → length log ≡ room → o log ≡ askedFor w log a
+  pub fits : a .taken ≡ true → roomOf w ≤ room

@@ -1,11 +1,14 @@
 -- What a world that is not broken holds. Assumes nothing.
-use mathlib.Core.Path.{_≡_, refl}
+use mathlib.Core.Path.{_≡_, refl, sym, _∙_}
 use mathlib.Core.Bool.{Bool, true, false, _||_}
-use Prim.Native.Nat.{_≤_, _<_, _^_}
+use Prim.Native.Nat.{_≤_, _<_, _^_, min}
+use native.Mathlib.Omega.{arith}
 use lib.Dec.{leb, ltb}
 use borrow.Author.Tests.{ltb-false, leb-false}
 use Rattle.float.proofs.Cases.{yes}
-use Rattle.sound.specs.Sound.{countsBroken}
+use Rattle.sound.specs.Sound.{anyTo, lineBroken, riderBroken, callsUnloaded, countsBroken, broken}
+use Rattle.world.specs.World.{lineAt, riderAt}
+use Rattle.sound.specs.Parts.{restBroken, carsBroken}
 use Rattle.world.specs.declared.World.{World}
 
 pub or-left : (a b : Bool) → (a || b) ≡ false → a ≡ false
@@ -16,26 +19,14 @@ pub or-right : (a b : Bool) → (a || b) ≡ false → b ≡ false
 or-right true b h = yes h
 or-right false b h = h
 
--- the tests as the code puts them together, the riders' last; without riders, and with them
-or-none : (x : Bool) → x ≡ (x || false)
+-- without riders
+pub or-none : (x : Bool) → x ≡ (x || false)
 or-none true = refl
 or-none false = refl
 
-or-moved : (x u d r : Bool) → (((x || u) || d) || r) ≡ (((x || r) || u) || d)
-or-moved true u d r = refl
-or-moved false true d true = refl
-or-moved false true d false = refl
-or-moved false false true true = refl
-or-moved false false true false = refl
-or-moved false false false true = refl
-or-moved false false false false = refl
-
-pub without : {l c u d l′ c′ u′ d′ : Bool} → l ≡ l′ → c ≡ c′ → u ≡ u′ → d ≡ d′ → (((l || c) || u) || d) ≡ ((((l′ || c′) || false) || u′) || d′)
-without {l} {c} {u} {d} e f g h = rw (← e, ← f, ← g, ← h, ← or-none (l || c))
-
-pub with-riders : {l c r u d l′ c′ r′ u′ d′ : Bool} → l ≡ l′ → c ≡ c′ → r ≡ r′ → u ≡ u′ → d ≡ d′
-    → ((((l || c) || u) || d) || r) ≡ ((((l′ || c′) || r′) || u′) || d′)
-with-riders {l} {c} {r} {u} {d} e f i g h = rw (← e, ← f, ← i, ← g, ← h) (or-moved (l || c) u d r)
+or-true : (x : Bool) → (x || true) ≡ true
+or-true true = refl
+or-true false = refl
 
 -- the counts of a world whose counts are not broken
 pub record Counts (w : World) : Type 0 where
@@ -66,3 +57,37 @@ counts-fit w h =
       ticks = ltb-false (2 ^ 28) (w .ticks) (or-right (a || b || c || d) e h5);
       moves = leb-false (2 ^ 48) (w .«total_moves») (or-right (a || b || c || d || e) (leb (2 ^ 48) (w .«total_moves»)) h);
     }
+
+-- the paper's order of the tests, and the code's: cars last, riders before them
+or-moved : (x k r u d : Bool) → ((((x || k) || r) || u) || d) ≡ ((((x || u) || d) || r) || k)
+or-moved true k r u d = refl
+or-moved false true r u d = sym (or-true ((u || d) || r))
+or-moved false false true true d = refl
+or-moved false false true false true = refl
+or-moved false false true false false = refl
+or-moved false false false true d = refl
+or-moved false false false false true = refl
+or-moved false false false false false = refl
+
+-- refusal 0 is the rest and the cars
+pub in-parts : (w : World) → broken w ≡ (restBroken w || carsBroken w (w .«car_count»))
+unfolding broken restBroken
+in-parts w =
+    or-moved
+    (countsBroken w || anyTo (λ i. lineBroken (w .«stop_count») (lineAt (w .lines) i)) (w .«line_count»))
+    (carsBroken w (w .«car_count»))
+    (anyTo (λ i. riderBroken (w .«stop_count») (w .«car_count») (riderAt (w .riders) i)) (w .«rider_count»))
+    (callsUnloaded (w .«stop_count») (w .«up_calls»))
+    (callsUnloaded (w .«stop_count») (w .«down_calls»))
+
+-- where the rest is not broken the counts fit
+pub rest-fits : (w : World) → restBroken w ≡ false → Counts w
+unfolding restBroken
+rest-fits w h = counts-fit w (or-left _ _ (or-left _ _ (or-left _ _ (or-left _ _ h))))
+
+-- so the first 16 places are all the cars
+pub in-places : (w : World) (b : Bool) → restBroken w ≡ b → broken w ≡ (b || carsBroken w (min (w .«car_count») 16))
+in-places w true h = in-parts w ∙ rw h
+in-places w false h =
+    let e : min (w .«car_count») 16 ≡ w .«car_count» = omega (arith, rest-fits w h .cars) in
+    in-parts w ∙ rw (h, e)

@@ -6,6 +6,7 @@ ghost use lib.ListN.{length, getD};
 ghost use Rattle.world.specs.World.{lineAt, carAt, riderAt};
 ghost use Rattle.sound.specs.Sound as Sound;
 ghost use Rattle.sound.specs.Sound.{anyTo};
+ghost use Rattle.sound.specs.Parts as Parts;
 use world::Car;
 use world::CarOption;
 use world::ElevatorPhase;
@@ -107,7 +108,8 @@ pub fn line_broken(stops: usize, line: Line) -> bool
     one_unloaded(&serves, count, stops)
 }
 
-fn car_broken(lines: usize, stops: usize, car: Car) -> bool
+// Whether a car has a queue, a counter or a number that records never make.
+pub fn car_broken(lines: usize, stops: usize, car: Car) -> bool
     ensures { λ r. ⌜ r ≡ Sound.carBroken lines stops car ⌝ }
 {
     let count = car.destination_count;
@@ -187,18 +189,16 @@ fn counts_broken(world: World) -> bool
         | (0x1_0000_0000_0000 <= world.total_moves)
 }
 
-// Refusal 0.
-pub fn broken(world: World) -> bool
-    ensures { λ r. ⌜ r ≡ Sound.broken world ⌝ }
+// Refusal 0 but for the cars.
+pub fn rest_broken(world: World) -> bool
+    ensures { λ r. ⌜ r ≡ Parts.restBroken world ⌝ }
 {
     if counts_broken(world) {
         return true;
     }
     let stops = world.stop_count;
     let lines = world.lines;
-    let cars = world.cars;
     let found = lines_broken(stops, lines, world.line_count)
-        | cars_broken(world.line_count, stops, cars, world.car_count)
         | calls_unloaded(stops, world.up_calls)
         | calls_unloaded(stops, world.down_calls);
     if world.rider_count == 0 {
@@ -206,4 +206,15 @@ pub fn broken(world: World) -> bool
     }
     let riders = world.riders;
     found | riders_broken(stops, world.car_count, riders, world.rider_count)
+}
+
+// Refusal 0.
+pub fn broken(world: World) -> bool
+    ensures { λ r. ⌜ r ≡ Sound.broken world ⌝ }
+{
+    if rest_broken(world) {
+        return true;
+    }
+    let cars = world.cars;
+    cars_broken(world.line_count, world.stop_count, cars, world.car_count)
 }

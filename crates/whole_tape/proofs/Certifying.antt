@@ -10,7 +10,7 @@ use Rattle.world.specs.World.{emptyWorld}
 use Rattle.world.specs.declared.World.{World}
 use Rattle.fields.specs.Fields.{kindOf}
 use Rattle.record.specs.Record.{Outcome, recordOf, isAccepted, usedOf, writtenOf}
-use Rattle.record.specs.Conditions.{Kept}
+use Rattle.conditions.specs.Conditions.{Kept}
 use Rattle.record.specs.Calls.{Call, outcome, next, headWord, worldAfter}
 use Rattle.record.specs.declared.Answer.{Answer}
 use Rattle.record.specs.declared.Answer.the-variants.{Accepted, Refused}

@@ -9,7 +9,7 @@ use lib.Dec.{leb, ltb, eqb}
 use lib.ListN.{length, drop, length-drop, replicate}
 use borrow.Author.Tests.{ltb-false}
 use Rattle.record.specs.Record.{recordOf, isAccepted, usedOf}
-use Rattle.record.specs.Conditions.{Kept}
+use Rattle.conditions.specs.Conditions.{Kept}
 use Rattle.study_text.specs.Text.{wordsOf}
 use Rattle.pieces.specs.Pieces.{Playing, nextRecord, goes, playTo, ends, closed, close, advanced}
 use Rattle.pieces.proofs.Sizes.{words-few}

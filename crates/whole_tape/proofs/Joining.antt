@@ -10,10 +10,10 @@ use lib.Seq.{drop-append-le}
 use borrow.Author.Tests.{ltb-true, leb-true, eqb-true, eqb-false, ne-eqb}
 use Rattle.world.specs.declared.World.{World}
 use Rattle.record.specs.Record.{Outcome, recordOf, isAccepted, usedOf}
-use Rattle.record.specs.Conditions.{Kept, FirstCondition}
+use Rattle.conditions.specs.Conditions.{Kept, FirstCondition}
 use Rattle.record.specs.declared.Answer.{Answer}
 use Rattle.record.specs.declared.Answer.the-variants.{Accepted, Refused}
-use Rattle.record.proofs.Answering.{first-condition}
+use Rattle.conditions.proofs.Answering.{first-condition}
 use Rattle.report.specs.declared.Counts.{Counts}
 use Rattle.study_text.specs.Text.{word, wordsOf}
 use Rattle.play.specs.Play.{told, countsAfter, ending}

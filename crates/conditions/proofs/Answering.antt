@@ -38,8 +38,8 @@ use Rattle.log.proofs.Writing.{sets-after}
 use Rattle.tick.specs.Tick.{tickWords}
 use Rattle.tick.specs.Room.{roomOf, WordsFit}
 use Rattle.tick.proofs.Proved.{words-fit}
 use Rattle.record.specs.Record.{Outcome, accepted, refused, changed, tickChecks, ticked, tickOnce, taken, readBy, recordOf}
-use Rattle.record.specs.Conditions.{Kept, FirstCondition, Answers, stateChecks, behind, checksIn, conditions, OnItsCondition}
+use Rattle.conditions.specs.Conditions.{Kept, FirstCondition, Answers, stateChecks, behind, checksIn, conditions, OnItsCondition}
 
 module _ (w : World) (words lent : List ℕ) where
   -- ---- what is kept
