@@ -1,6 +1,6 @@
 -- What a call gives, case by case. Assumes nothing.
 use mathlib.Core.Path.{_≡_, refl, sym, _∙_, ap, subst}
-use mathlib.Core.Bool.{Bool, true, false, not, _||_, true≢false, cond}
+use mathlib.Core.Bool.{Bool, true, false, not, true≢false, cond}
 use Rattle.float.proofs.Cases.{yes}
 use mathlib.Core.List.{List}
 use native.Mathlib.Nat.{mul-le-mul}
@@ -24,13 +24,9 @@ use Rattle.tick.specs.Room.{roomOf, WordsFit}
 use Rattle.tick.proofs.Proved.{words-fit}
 use Rattle.record.specs.declared.Recorded.{Recorded}
 use Rattle.record.specs.declared.Answer.the-variants.{Accepted, Refused}
-use Rattle.record.specs.Record.{Outcome, Gives, accepted, refused, answerOf, changed, tickOnce, taken, recordOf}
+use Rattle.record.specs.Record.{Outcome, Gives, refused, answerOf, changed, tickOnce, taken, recordOf}
 use Rattle.record.specs.Parts.{Few, Asks, readFrom}
 use Rattle.record.specs.declared.Asked.{Asked}
-
-pub or-more : (a b c : Bool) → ((a || b) || c) ≡ (a || (b || c))
-or-more true b c = refl
-or-more false b c = refl
 
 pub is-no : (b : Bool) → not b ≡ true → b ≡ false
 is-no true h = yes (sym h)

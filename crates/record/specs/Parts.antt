@@ -1,17 +1,17 @@
--- Which records a part of the record call takes.
+-- The parts of the record call: which records each takes, and what becomes of a tick's.
 use mathlib.Core.Path.{_≡_}
 use mathlib.Core.Bool.{Bool, true, false, cond}
 use mathlib.Core.List.{List}
 use Prim.Native.Nat.{ℕ, _≤_}
+use lib.ListN.{length}
 use Rattle.world.specs.declared.World.{World}
 use Rattle.changes.specs.declared.Changed.{Changed}
 use Rattle.tape.specs.Tape.{decoded}
 use Rattle.tape.specs.declared.Record.{Record}
 use Rattle.tape.specs.declared.Record.the-variants.{Line, Stop, Car, Rider, Send, Mode, ManualSpeed, DoorCommand, HallCall, Destination, Enable, Tick, Start}
+use Rattle.tick.specs.Room.{roomOf}
 use Rattle.record.specs.Record.{Outcome, changed, refused, ticked, taken, readBy}
 use Rattle.record.specs.declared.Asked.{Asked}
-use Rattle.tick.specs.Room.{roomOf}
-use lib.ListN.{length}
 
 -- kind C
 abbrev pub isTick : Record → Bool
@@ -71,7 +71,7 @@ Few w = (w .«car_count» ≤ 16) × (w .«stop_count» ≤ 64)
 abbrev pub askedFor : World → List ℕ → Asked → Outcome
 askedFor w log a = cond (a .taken) (ticked w log (a .used) (a .dt)) (refused w log (a .refusal))
 
--- on a log of `room` words; a record that is taken has its room
+-- what `tick_asked` and `asked_of` answer: on every log of `room` words the outcome `o` is `askedFor`; where the record is taken the tick's words have room
 pub record Asks (w : World) (room : ℕ) (a : Asked) (o : List ℕ → Outcome) : Type 0 where
   pub same : (log : List ℕ) → length log ≡ room → o log ≡ askedFor w log a
   pub fits : a .taken ≡ true → roomOf w ≤ room

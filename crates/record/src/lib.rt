@@ -129,7 +129,7 @@ fn answered(changed: Changed, used: usize) -> Recorded
     }
 }
 
-// What becomes of a tick's record: it is taken, with its dt and its words, or it is refused.
+// What becomes of a tick's record: it is taken, with its dt and its words, or it is refused; what the other case would hold is not looked at.
 struct Asked {
     taken: bool,
     refusal: Refusal,
@@ -209,6 +209,7 @@ pub fn record(world: World, words: &[u32], log: &mut [u32]) -> Recorded
 {
     let mut w = world;
     let cars = count_in(w.car_count, 16);
+    // refusal 0
     let mut broken = rest_broken(w);
     let mut i: usize = 0;
     while i < cars {
@@ -229,7 +230,8 @@ pub fn record(world: World, words: &[u32], log: &mut [u32]) -> Recorded
     }
     let dt = asked.dt;
     let n = w.stop_count;
-    let order = sorted_stops(&w.stops, n);
+    let sort = sorted_stops(&w.stops, n);
+    // the tick's word, then movement.rs, run
     let mut to = emit(log, 0, Event::TickMade { tick: w.ticks });
     i = 0;
     while i < cars {
@@ -255,7 +257,7 @@ pub fn record(world: World, words: &[u32], log: &mut [u32]) -> Recorded
                 let riders = w.riders;
                 lamps = work_of(trip, riders, w.rider_count, row, &w.stops, me);
             }
-            let told = tell(log, to, me, trip, kind, car, r, lamps, &order, &w.stops, n);
+            let told = tell(log, to, me, trip, kind, car, r, lamps, &sort, &w.stops, n);
             w.cars[i].motion.position = r.position;
             w.cars[i].motion.velocity = r.velocity;
             w.cars[i].move_count = wrapping_add_u64(car.move_count, told.count);
@@ -270,6 +272,7 @@ pub fn record(world: World, words: &[u32], log: &mut [u32]) -> Recorded
         }
         i += 1;
     }
+    // doors.rs, run
     let mut just_opened = [not_opened(); 16];
     i = 0;
     while i < cars {

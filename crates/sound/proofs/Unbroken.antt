@@ -1,6 +1,6 @@
 -- What a world that is not broken holds. Assumes nothing.
-use mathlib.Core.Path.{_≡_, refl, sym, _∙_}
-use mathlib.Core.Bool.{Bool, true, false, _||_}
+use mathlib.Core.Path.{_≡_, refl, ap, _∙_}
+use mathlib.Core.Bool.{Bool, true, false, _||_, or-comm}
 use Prim.Native.Nat.{_≤_, _<_, _^_, min}
 use native.Mathlib.Omega.{arith}
 use lib.Dec.{leb, ltb}
@@ -18,15 +18,6 @@ or-left false b h = refl
 pub or-right : (a b : Bool) → (a || b) ≡ false → b ≡ false
 or-right true b h = yes h
 or-right false b h = h
-
--- without riders
-pub or-none : (x : Bool) → x ≡ (x || false)
-or-none true = refl
-or-none false = refl
-
-or-true : (x : Bool) → (x || true) ≡ true
-or-true true = refl
-or-true false = refl
 
 -- the counts of a world whose counts are not broken
 pub record Counts (w : World) : Type 0 where
@@ -58,27 +49,24 @@ counts-fit w h =
       moves = leb-false (2 ^ 48) (w .«total_moves») (or-right (a || b || c || d || e) (leb (2 ^ 48) (w .«total_moves»)) h);
     }
 
--- the paper's order of the tests, and the code's: cars last, riders before them
-or-moved : (x k r u d : Bool) → ((((x || k) || r) || u) || d) ≡ ((((x || u) || d) || r) || k)
-or-moved true k r u d = refl
-or-moved false true r u d = sym (or-true ((u || d) || r))
-or-moved false false true true d = refl
-or-moved false false true false true = refl
-or-moved false false true false false = refl
-or-moved false false false true d = refl
-or-moved false false false false true = refl
-or-moved false false false false false = refl
+-- a test may be put off to the end
+later : (x k r : Bool) → ((x || k) || r) ≡ ((x || r) || k)
+later true k r = refl
+later false k r = or-comm k r
+
+pub put-off : (x k u d : Bool) → (((x || k) || u) || d) ≡ (((x || u) || d) || k)
+put-off x k u d = ap (λ (y : Bool). y || d) (later x k u) ∙ later (x || u) k d
 
 -- refusal 0 is the rest and the cars
 pub in-parts : (w : World) → broken w ≡ (restBroken w || carsBroken w (w .«car_count»))
 unfolding broken restBroken
 in-parts w =
-    or-moved
-    (countsBroken w || anyTo (λ i. lineBroken (w .«stop_count») (lineAt (w .lines) i)) (w .«line_count»))
-    (carsBroken w (w .«car_count»))
-    (anyTo (λ i. riderBroken (w .«stop_count») (w .«car_count») (riderAt (w .riders) i)) (w .«rider_count»))
-    (callsUnloaded (w .«stop_count») (w .«up_calls»))
-    (callsUnloaded (w .«stop_count») (w .«down_calls»))
+    let x = countsBroken w || anyTo (λ i. lineBroken (w .«stop_count») (lineAt (w .lines) i)) (w .«line_count») in
+    let k = carsBroken w (w .«car_count») in
+    let r = anyTo (λ i. riderBroken (w .«stop_count») (w .«car_count») (riderAt (w .riders) i)) (w .«rider_count») in
+    let u = callsUnloaded (w .«stop_count») (w .«up_calls») in
+    let d = callsUnloaded (w .«stop_count») (w .«down_calls») in
+    ap (λ (y : Bool). (y || u) || d) (later x k r) ∙ put-off (x || r) k u d
 
 -- where the rest is not broken the counts fit
 pub rest-fits : (w : World) → restBroken w ≡ false → Counts w

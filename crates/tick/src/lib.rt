@@ -1,4 +1,4 @@
-// One tick: its own word, the cars' motion, the doors, and the tick's number one more.
+// What one tick is (specs/Tick.antt), and claims about it. The code that makes it is `record`.
 ghost use mathlib.Core.Path.{_≡_};
 ghost use mathlib.Core.Bool.{true};
 ghost use Rattle.tick.specs.Room.{WordsFit};

@@ -1,5 +1,5 @@
 -- `record::asked_of` meets its contract. Assumes nothing.
-use mathlib.Core.Path.{_≡_, sym, _∙_}
+use mathlib.Core.Path.{sym, _∙_}
 use mathlib.Core.Bool.{true≢false}
 use Rattle.record.proofs.Dispatch.{no-tick, head-tick}
 use Rattle.record.proofs.Giving.{ask-refused, ask-taken}

@@ -1,6 +1,6 @@
 -- `record::record` meets its contract. Assumes nothing.
 use mathlib.Core.Path.{_≡_, refl, sym, ap, _∙_}
-use mathlib.Core.Bool.{Bool, true, false, _||_}
+use mathlib.Core.Bool.{false, _||_, or-assoc, or-false}
 use mathlib.Core.Logic.{inl, inr, ⊎-elim}
 use native.Mathlib.Numerals.{add-one}
 use Prim.Native.Nat.{_+_, _-_, _≤_, _<_, min}
@@ -9,7 +9,7 @@ use borrow.Author.Needs.{needs}
 use Rattle.log.proofs.Writing.{wrote-none, also, wrote-length}
 use Rattle.sound.specs.Sound.{broken, anyTo}
 use Rattle.sound.specs.Parts.{carsBroken}
-use Rattle.sound.proofs.Unbroken.{or-none, in-places}
+use Rattle.sound.proofs.Unbroken.{in-places}
 use Rattle.world.specs.World.{carAt}
 use Rattle.steps.specs.Steps.{plus, stepOf, runTo}
 use Rattle.sorted.specs.Sorted.{sortedTable}
@@ -18,7 +18,7 @@ use Rattle.doors_system.proofs.Running.{Runs, same, more, turn-on, door-of, pas
 use Rattle.movement_system.specs.Movement.{moveOf}
 use Rattle.movement_system.proofs.Moving.{Moves, stops-kept, cars-kept, calls-kept, cleared, doored-after, comes-in, goes-on, stays}
 use Rattle.tick.specs.Tick.{ticked, tickWorld, tickWords}
-use Rattle.record.proofs.Giving.{or-more, is-no, is-yes, is-broken, is-whole, few, declined, ticked-once}
+use Rattle.record.proofs.Giving.{is-no, is-yes, is-broken, is-whole, few, declined, ticked-once}
 use Rattle.record.proofs.record.Statement.{statement}
 use Rattle.record.proofs.record.Tie as tie
 
@@ -61,11 +61,11 @@ place-2 c = omega (arith, c .loop3-test .taken, c .before .before .before .befor
 
 loop-holds : tie.Need-loop-holds Inv-loop μ-loop Inv-loop2 μ-loop2 Inv-loop3 μ-loop3
 unfolding anyTo
-loop-holds c = (search needs, or-none _)
+loop-holds c = (search needs, sym (or-false _))
 
 loop-again : tie.Need-loop-again Inv-loop μ-loop Inv-loop2 μ-loop2 Inv-loop3 μ-loop3
 unfolding anyTo
-loop-again c = (omega (arith, c .before .before .loop-test .taken), rw (add-one, c .before .before .before .loop .inv .1, c .car-broken .ensures) (or-more (c .before .before .before .before .rest-broken .result) _ _))
+loop-again c = (omega (arith, c .before .before .loop-test .taken), rw (add-one, c .before .before .before .loop .inv .1, c .car-broken .ensures) (or-assoc (c .before .before .before .before .rest-broken .result) _ _))
 
 returns : tie.Need-returns Inv-loop μ-loop Inv-loop2 μ-loop2 Inv-loop3 μ-loop3
 returns c = is-broken (c .before .before .before .before .before .before .before .before .args .world) _ _ (looked (c .before .before) ∙ c .before .if1 .taken) (c .refused .ensures)

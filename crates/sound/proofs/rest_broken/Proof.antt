@@ -1,8 +1,9 @@
 -- `sound::rest_broken` meets its contract. Assumes nothing.
 use mathlib.Core.Path.{sym, _∙_}
+use mathlib.Core.Bool.{or-false}
 use Rattle.sound.specs.Sound.{anyTo}
 use Rattle.sound.specs.Parts.{restBroken}
-use Rattle.sound.proofs.Unbroken.{Counts, counts-fit, or-none}
+use Rattle.sound.proofs.Unbroken.{Counts, counts-fit, put-off}
 use Rattle.sound.proofs.rest_broken.Statement.{statement}
 use Rattle.sound.proofs.rest_broken.Tie as tie
 
@@ -22,7 +23,7 @@ returns-2 c =
     let up = c .before .before .before .calls-unloaded in
     let lines = c .before .before .before .before .lines-broken in
     let b = c .before .before .before .before .before .before in
-    rw (← b .before .counts-broken .ensures, b .if1 .left, c .if2 .taken, ← lines .ensures, ← up .ensures, ← down .ensures) (or-none _)
+    rw (← b .before .counts-broken .ensures, b .if1 .left, c .if2 .taken, ← lines .ensures, ← up .ensures, ← down .ensures, or-false (lines .result))
 
 returns-3 : tie.Need-returns-3
 unfolding restBroken
@@ -31,7 +32,7 @@ returns-3 c =
     let up = c .before .before .before .before .before .calls-unloaded in
     let lines = c .before .before .before .before .before .before .lines-broken in
     let b = c .before .before .before .before .before .before .before .before in
-    rw (← b .before .counts-broken .ensures, b .if1 .left, ← lines .ensures, ← up .ensures, ← down .ensures, ← c .riders-broken .ensures)
+    rw (← b .before .counts-broken .ensures, b .if1 .left, ← lines .ensures, ← up .ensures, ← down .ensures, ← c .riders-broken .ensures) (sym (put-off (lines .result) (c .riders-broken .result) (up .result) (down .result)))
 
 pub rest-broken-spec : {M : Type 1} → statement M
 rest-broken-spec =
