@@ -266,8 +266,8 @@ pub fn record(world: World, words: &[u32], log: &mut [u32]) -> Recorded
             to = told.at;
             if r.arrived {
                 let row = w.cars[i];
-                let next = come(row, trip, lamps, w.ticks);
-                w.cars[i] = next;
+                let arrived = come(row, trip, lamps, w.ticks);
+                w.cars[i] = arrived;
             }
         }
         i += 1;
