@@ -1,10 +1,10 @@
 -- The loop over a piece's records: what it still does is what the definition still does. Assumes nothing.
-use mathlib.Core.Path.{_≡_, refl, sym, ap, _∙_}
+use mathlib.Core.Path.{_≡_, refl, ap, _∙_}
 use mathlib.Core.Bool.{Bool, true, false, not, _&&_, cond}
 use mathlib.Core.List.{List, [], _∷_, _++_, append-nil}
 use Prim.Native.Nat.{ℕ, zero, suc, _+_, _-_, _*_, _/_, _<_, _≤_, min}
 use native.Mathlib.Omega.{arith}
-use borrow.Author.Tests.{ltb-true}
+use borrow.Author.Tests.{ltb-true, not-true}
 use lib.Dec.{ltb, eqb}
 use lib.ListN.{length, take, drop, length-append, length-drop, length-take}
 use lib.Seq.{take-all, drop-drop}
@@ -105,10 +105,6 @@ stepped o made log′ out out′ c at t g k = record {
   over = rw (← g .answer) (k .refused);
   text = rw (← g .answer, ← g .log) (k .text);
 }
-
-pub not-true : (b : Bool) → not b ≡ true → b ≡ false
-not-true true h = sym h
-not-true false h = refl
 
 -- the words behind a place of the piece, and how many
 words-from : (piece : List ℕ) (from : ℕ) → wordsOf (drop (4 * from) piece) ≡ drop from (wordsOf piece)

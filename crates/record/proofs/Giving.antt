@@ -1,7 +1,6 @@
 -- What a call gives, case by case. Assumes nothing.
 use mathlib.Core.Path.{_≡_, refl, sym, _∙_, ap, subst}
 use mathlib.Core.Bool.{Bool, true, false, not, true≢false, cond}
-use Rattle.float.proofs.Cases.{yes}
 use mathlib.Core.List.{List}
 use native.Mathlib.Nat.{mul-le-mul}
 use native.Mathlib.Omega.{arith}
@@ -27,14 +26,6 @@ use Rattle.record.specs.declared.Answer.the-variants.{Accepted, Refused}
 use Rattle.record.specs.Record.{Outcome, Gives, refused, answerOf, changed, tickOnce, taken, recordOf}
 use Rattle.record.specs.Parts.{Few, Asks, readFrom}
 use Rattle.record.specs.declared.Asked.{Asked}
-
-pub is-no : (b : Bool) → not b ≡ true → b ≡ false
-is-no true h = yes (sym h)
-is-no false h = refl
-
-pub is-yes : (b : Bool) → not b ≡ false → b ≡ true
-is-yes true h = refl
-is-yes false h = yes h
 
 -- a refusal: the answer, and the world as it was
 abbrev pub Says : Recorded → World → Refusal → Type 0

@@ -20,7 +20,7 @@ use leader::LeaderOption;
 use log::Event;
 use log::emit;
 use lookup::stops::count_in;
-use movement_system::cars::tell;
+use movement_system::turn::tell;
 use moves::come;
 use moves::distance_by;
 use sorted::sorted_stops;

@@ -7,7 +7,7 @@ use native.Mathlib.Omega.{arith}
 use lib.Dec.{leb, ltb, eqb}
 use lib.ListN.{length, drop, length-append, length-drop}
 use lib.Seq.{drop-append-le}
-use borrow.Author.Tests.{ltb-true, leb-true, eqb-true, eqb-false, ne-eqb}
+use borrow.Author.Tests.{ltb-true, leb-true, eqb-true, eqb-false, ne-eqb, not-true}
 use Rattle.world.specs.declared.World.{World}
 use Rattle.record.specs.Record.{Outcome, recordOf, isAccepted, usedOf}
 use Rattle.conditions.specs.Conditions.{Kept, FirstCondition}
@@ -20,7 +20,6 @@ use Rattle.play.specs.Play.{told, countsAfter, ending}
 use Rattle.pieces.specs.Pieces.{Playing, after, nextRecord, ready, hasRoom, goes, playTo, ends, closed, close, advanced, playing, fresh}
 use Rattle.pieces.proofs.Sizes.{words-drop, words-few}
 use Rattle.float.proofs.Cases.{and-left, and-right}
-use Rattle.pieces.proofs.Going.{not-true}
 use Rattle.whole_tape.specs.Study.{goesOn, printed, studyText}
 use Rattle.whole_tape.specs.WholeTape.{Longest, stillPrints, begun, Round, given, emptied, round, afterRounds, wroteOut, allRead, InOrder, Rounds, Over}
 use Rattle.whole_tape.proofs.Ignoring.{longest}

@@ -6,6 +6,7 @@ use native.Mathlib.Numerals.{add-one}
 use Prim.Native.Nat.{_+_, _-_, _≤_, _<_, min}
 use native.Mathlib.Omega.{arith}
 use borrow.Author.Needs.{needs}
+use borrow.Author.Tests.{not-true, not-false}
 use Rattle.log.proofs.Writing.{wrote-none, also, wrote-length}
 use Rattle.sound.specs.Sound.{broken, anyTo}
 use Rattle.sound.specs.Parts.{carsBroken}
@@ -18,7 +19,7 @@ use Rattle.doors_system.proofs.Running.{Runs, same, more, turn-on, door-of, pas
 use Rattle.movement_system.specs.Movement.{moveOf}
 use Rattle.movement_system.proofs.Moving.{Moves, stops-kept, cars-kept, calls-kept, cleared, doored-after, comes-in, goes-on, stays}
 use Rattle.tick.specs.Tick.{ticked, tickWorld, tickWords}
-use Rattle.record.proofs.Giving.{is-no, is-yes, is-broken, is-whole, few, declined, ticked-once}
+use Rattle.record.proofs.Giving.{is-broken, is-whole, few, declined, ticked-once}
 use Rattle.record.proofs.record.Statement.{statement}
 use Rattle.record.proofs.record.Tie as tie
 
@@ -74,7 +75,7 @@ returns-2 : tie.Need-returns-2 Inv-loop μ-loop Inv-loop2 μ-loop2 Inv-loop3 μ-
 returns-2 c = is-whole (c .before .before .before .before .before .before .before .before .before .before .args .world) _ _ (whole (c .before .before .before)) (c .other-record .ensures _)
 
 returns-3 : tie.Need-returns-3 Inv-loop μ-loop Inv-loop2 μ-loop2 Inv-loop3 μ-loop3
-returns-3 c = is-whole (c .before .before .before .before .before .before .before .before .before .before .before .before .before .args .world) _ _ (whole (c .before .before .before .before .before .before)) (declined (c .before .before .before .before .before .before .before .before .before .before .before .before .before .args .world) _ _ (c .before .before .before .asked-of .ensures) (is-no _ (c .before .if3 .taken)) (c .refused2 .ensures))
+returns-3 c = is-whole (c .before .before .before .before .before .before .before .before .before .before .before .before .before .args .world) _ _ (whole (c .before .before .before .before .before .before)) (declined (c .before .before .before .before .before .before .before .before .before .before .before .before .before .args .world) _ _ (c .before .before .before .asked-of .ensures) (not-true _ (c .before .if3 .taken)) (c .refused2 .ensures))
 
 loop2-holds : tie.Need-loop2-holds Inv-loop μ-loop Inv-loop2 μ-loop2 Inv-loop3 μ-loop3
 unfolding runTo
@@ -149,7 +150,7 @@ returns-4 c =
     let d : min (n .result) 16 ≡ min (s .w .«car_count») 16 = rw (cars-kept k) (omega (arith, n .ensures)) in
     let r = ended (rw f at (t .inv .1)) (cleared (t .just-opened) (calls-kept (t .inv .1)) d (c .before .before .before .clear-hall-calls .ensures)) in
     let x = doored-after (a .result .dt) w k (r .0) (r .1) in
-    is-whole w _ _ (whole (c .before .before .before .before .before .before .before .before .before .before .before .before .before .before .before .before .before .before .before .before .before .before)) (ticked-once w _ _ (a .ensures) (is-yes _ (c .before .before .before .before .before .before .before .before .before .before .before .before .before .before .before .before .before .if3 .left)) refl (rw (c .wrapping-add-u643 .ensures) (ap ticked (x .0))) (also (c .before .before .before .before .before .before .before .before .before .before .before .before .emit .ensures) (x .1)))
+    is-whole w _ _ (whole (c .before .before .before .before .before .before .before .before .before .before .before .before .before .before .before .before .before .before .before .before .before .before)) (ticked-once w _ _ (a .ensures) (not-false _ (c .before .before .before .before .before .before .before .before .before .before .before .before .before .before .before .before .before .if3 .left)) refl (rw (c .wrapping-add-u643 .ensures) (ap ticked (x .0))) (also (c .before .before .before .before .before .before .before .before .before .before .before .before .emit .ensures) (x .1)))
 
 pub record-spec : {M : Type 1} → statement M
 record-spec =
@@ -173,9 +174,9 @@ record-spec =
     (λ c κs. tt)
     returns
     (λ c κs. tt)
-    (λ c κs. sym (c .before .is-tick .ensures) ∙ is-no _ (c .if2 .taken))
+    (λ c κs. sym (c .before .is-tick .ensures) ∙ not-true _ (c .if2 .taken))
     returns-2
-    (λ c κs. (few (c .before .before .before .before .before .before .before .before .before .args .world) (whole (c .before .before)), sym (c .before .is-tick .ensures) ∙ is-yes _ (c .if2 .left)))
+    (λ c κs. (few (c .before .before .before .before .before .before .before .before .before .args .world) (whole (c .before .before)), sym (c .before .is-tick .ensures) ∙ not-false _ (c .if2 .left)))
     (λ c κs. tt)
     returns-3
     (λ c κs. tt)
