@@ -15,8 +15,8 @@ use Rattle.world.specs.declared.LineKind.the-variants.{Linear, Loop}
 use Rattle.world.specs.declared.StopOption.{StopOption}
 use Rattle.world.specs.declared.StopOption.the-variants.{NoStop, Stop}
 use Rattle.steps.specs.Steps.{bothLit, unlit, lampsOf}
-use Rattle.steps.specs.declared.Lamps.{Lamps}
-use Rattle.steps.specs.declared.Queue.{Queue}
+use Rattle.world.specs.declared.Lamps.{Lamps}
+use Rattle.world.specs.declared.Queue.{Queue}
 use Rattle.trips.specs.Trips.{isLoop}
 use Rattle.trips.specs.declared.Trip.{Trip}
 use Rattle.trips.specs.declared.Trip.the-variants.{Rests, Drives, GoesTo, Repositions}

@@ -2,16 +2,16 @@
 ghost use mathlib.Core.Path.{_≡_};
 ghost use Prim.Native.Nat.{min};
 ghost use Rattle.arrival.specs.Arrival as Arrival;
-use lookup::stops::count_in;
+use laws::at_most;
 use lookup::stops::stop_position;
-use steps::Lamps;
-use steps::Queue;
 use steps::lamps_of;
 use trips::Trip;
 use trips::is_loop;
 use world::Car;
 use world::CarOption;
+use world::Lamps;
 use world::LineKind;
+use world::Queue;
 use world::Rider;
 use world::StopOption;
 
@@ -69,7 +69,7 @@ fn riders_need(
 ) -> Lamps
     ensures { λ r. ⌜ r ≡ Arrival.ridersTo riders (now (stops .entry)) number stop (min «rider_count» 128) ⌝ }
 {
-    let count = count_in(rider_count, 128);
+    let count = at_most(rider_count, 128);
     let mut lamps = Lamps {
         going_up: false,
         going_down: false,
@@ -87,7 +87,7 @@ fn riders_need(
 fn queue_needs(queue: Queue, stops: &[f64; 64], riders: Lamps, stop: f64) -> Lamps
     ensures { λ r. ⌜ r ≡ Arrival.queuedTo queue (now (stops .entry)) riders stop (min (queue .count) 8) ⌝ }
 {
-    let count = count_in(queue.count, 8);
+    let count = at_most(queue.count, 8);
     let mut lamps = riders;
     let mut n: usize = 0;
     while n < count {

@@ -12,7 +12,7 @@ use Rattle.record.specs.declared.Recorded.{Recorded}
 use Rattle.record.specs.Record.{Gives, recordOf, usedOf, writtenOf}
 use Rattle.conditions.specs.Conditions.{FirstCondition}
 use Rattle.conditions.proofs.Answering.{first-condition}
-use Rattle.steps.specs.Steps.{plus}
+use Rattle.laws.specs.Numbers.{plus}
 use Rattle.beside_ticks.specs.Bench.{Playing, playedTo, Reached}
 
 -- before the first

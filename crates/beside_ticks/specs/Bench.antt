@@ -8,7 +8,7 @@ use Rattle.world.specs.World.{carAt, emptyWorld}
 use Rattle.world.specs.declared.World.{World}
 use Rattle.world.specs.declared.Car.{Car}
 use Rattle.record.specs.Record.{Outcome, recordOf, usedOf, writtenOf}
-use Rattle.steps.specs.Steps.{plus}
+use Rattle.laws.specs.Numbers.{plus}
 
 -- ---- the records
 

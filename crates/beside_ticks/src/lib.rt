@@ -2,7 +2,7 @@
 ghost use mathlib.Core.Path.{_≡_};
 ghost use Rattle.float.specs.Float.{numberBits};
 ghost use Rattle.record.specs.Record.{usedOf, writtenOf};
-ghost use Rattle.steps.specs.Steps.{plus};
+ghost use Rattle.laws.specs.Numbers.{plus};
 ghost use Rattle.world.specs.World.{emptyWorld};
 ghost use Rattle.beside_ticks.specs.Bench as Bench;
 use lent::turn;

@@ -9,7 +9,7 @@ use mathlib.Core.Logic.{_⊎_, ⊎-elim}
 use lib.Dec.{eqb, leb, ltb}
 use lib.ListN.{length, getD}
 use borrow.Author.Tests.{eqb-true, leb-false}
-use Rattle.float.proofs.Cases.{yes}
+use Rattle.laws.proofs.Bools.{yes}
 use Rattle.world.specs.World.{carAt, lineAt, riderAt}
 use Rattle.sound.specs.Sound.{anyTo, carBroken, lineBroken, riderBroken, countsBroken, broken, unloaded, phaseUnloaded, stopUnloaded, callsUnloaded}
 use Rattle.world.specs.Refusal.{Check, check}
@@ -28,7 +28,7 @@ use Rattle.tape.specs.declared.Read.the-variants.{Accepted, Refused}
 use Rattle.tape.specs.declared.Record.{Record}
 use Rattle.tape.specs.declared.Record.the-variants as Record
 use Rattle.tick.specs.Counters.{Low}
-use Rattle.tick.proofs.Passed.{both, cases}
+use Rattle.laws.proofs.Choices.{both, cases}
 
 -- ---- the record read from words with the head h: only kind C is a tick, and only kind 6 with v 3 makes a car Manual
 

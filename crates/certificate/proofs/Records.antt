@@ -10,7 +10,7 @@ use lib.ListN.{length, set, take, drop, length-set}
 use lib.Seq.{getD-set-same, getD-set-other, sets, sets-eq, take-at}
 use lib.Ieee.{Float}
 use borrow.Author.Tests.{eqb-true, ltb-false, leb-false, not-false}
-use Rattle.float.proofs.Cases.{no}
+use Rattle.laws.proofs.Bools.{no}
 use Rattle.door.specs.Door.{isClosed}
 use Rattle.door.specs.declared.DoorState.{DoorState}
 use Rattle.door.specs.declared.DoorState.the-variants.{Closed}
@@ -46,7 +46,7 @@ use Rattle.requests.specs.Requests.{queueCommand, pressHallCall, pushDestinatio
 use Rattle.tick.specs.Tick.{tickWords}
 use Rattle.tick.specs.Room.{roomOf, WordsFit}
 use Rattle.tick.specs.Counters.{sumTo}
-use Rattle.tick.proofs.Passed.{both, cases}
+use Rattle.laws.proofs.Choices.{both, cases}
 use Rattle.tick.proofs.Proved.{words-fit}
 use Rattle.record.specs.Record.{Outcome, isAccepted, accepted, refused, unless, changed, tickChecks, ticked, tickOnce, taken, readBy, recordOf}
 use Rattle.record.specs.Calls.{Call, outcome, next, headWord}

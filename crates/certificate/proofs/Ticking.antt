@@ -12,7 +12,8 @@ use Rattle.world.specs.declared.Car.{Car}
 use Rattle.world.specs.declared.Motion.{Motion}
 use Rattle.world.specs.declared.StopOption.{StopOption}
 use Rattle.world.specs.declared.StopOption.the-variants.{NoStop, Stop}
-use Rattle.log.specs.Words.{bit, wordOf}
+use Rattle.log.specs.Words.{wordOf}
+use Rattle.laws.specs.Numbers.{bit}
 use Rattle.log.specs.declared.Event.the-variants.{TickMade}
 use Rattle.log.proofs.Reading.{kind-tick}
 use Rattle.steps.specs.Steps.{runCars}
@@ -22,7 +23,7 @@ use Rattle.doors_system.specs.Doors.{standing, carsOf, doorOf, doored, doorsWor
 use Rattle.hall_calls.specs.Clearing.{Standing, clears, clearWord, clearMatchingWords, openedOf, clearTo, clearWordsTo}
 use Rattle.tick.specs.Tick.{tickWorld, tickWords}
 use Rattle.tick.specs.Counters.{movesIn, sumTo, countOf, Low, Counts, NothingWraps}
-use Rattle.tick.proofs.Passed.{both}
+use Rattle.laws.proofs.Choices.{both}
 use Rattle.tick.proofs.Turns.{moves-append}
 use Rattle.tick.proofs.Proved.{nothing-wraps}
 use Rattle.certificate.specs.Certificate.{positionOf}

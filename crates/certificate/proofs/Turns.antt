@@ -6,7 +6,7 @@ use Prim.Native.Nat.{ℕ, zero, suc, _+_, _-_, _*_, _<_, min}
 use lib.Dec.{leb}
 use lib.Ieee.{Float}
 use Rattle.motion.specs.declared.movement.MovementResult.{MovementResult}
-use Rattle.float.proofs.Cases.{yes, no}
+use Rattle.laws.proofs.Bools.{yes, no}
 use Rattle.door.specs.Door.{isClosed, tick}
 use Rattle.door.specs.declared.Ticked.{Ticked}
 use Rattle.door.specs.declared.DoorState.{DoorState}
@@ -24,9 +24,10 @@ use Rattle.world.specs.declared.ElevatorPhase.{ElevatorPhase}
 use Rattle.world.specs.declared.ElevatorPhase.the-variants.{Idle, MovingToStop, Repositioning, DoorOpening, Loading, DoorClosing, Stopped}
 use Rattle.world.specs.declared.StopOption.{StopOption}
 use Rattle.world.specs.declared.StopOption.the-variants.{NoStop, Stop}
-use Rattle.log.specs.Words.{bit, codeOf, ticksOf}
+use Rattle.log.specs.Words.{codeOf, ticksOf}
+use Rattle.laws.specs.Numbers.{bit}
 use Rattle.steps.specs.Steps.{isManual, isInspection, lineOf, lampsOf, bothLit, unlit, updateIndicators, Step}
-use Rattle.steps.specs.declared.Lamps.{Lamps}
+use Rattle.world.specs.declared.Lamps.{Lamps}
 use Rattle.trips.specs.Trips.{tripBy, tripOf, travelled, distanceAfter}
 use Rattle.trips.specs.Spans.{spanOf, movingUp}
 use Rattle.landing.specs.Landing.{leaderOf, landing}
@@ -41,7 +42,7 @@ use Rattle.doors_system.specs.Doors.{doorTurn, doorOf}
 use Rattle.door_ticks.specs.Ticks.{Turn, departedFrom, finishedOpening, finishedClosing, finishBy, stays, rests, doorBy}
 use Rattle.door_commands.specs.declared.Tried.{Tried}
 use Rattle.door_commands.specs.declared.Work.{Work}
-use Rattle.tick.proofs.Passed.{both, cases}
+use Rattle.laws.proofs.Choices.{both, cases}
 use Rattle.certificate.proofs.Watch.{Told, told-none, told-join, told-dull, told-word}
 
 -- phase and door agree, and where the door is closed the log says so too

@@ -15,7 +15,8 @@ use Rattle.world.specs.declared.StopOption.the-variants.{NoStop, Stop}
 use Rattle.log.specs.Words.{wordOf}
 use Rattle.log.specs.Log.{Wrote}
 use Rattle.log.specs.declared.Event.the-variants.{DoorOpened, DoorClosed, ElevatorDeparted}
-use Rattle.steps.specs.Steps.{isInspection, lampsOf, bothLit, unlit, updateIndicators, withDoor, notOpened}
+use Rattle.steps.specs.Steps.{isInspection, lampsOf, bothLit, unlit, updateIndicators, notOpened}
+use Rattle.world.specs.With.{withDoor}
 use Rattle.steps.specs.declared.JustOpened.{JustOpened}
 use Rattle.door_commands.specs.declared.Work.{Work}
 use Rattle.door_ticks.specs.declared.Turned.{Turned}

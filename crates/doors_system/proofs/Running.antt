@@ -19,7 +19,8 @@ use Rattle.world.specs.declared.StopOption.{StopOption}
 use Rattle.next_stop.specs.NextStop.{loopNextStopForCar}
 use Rattle.log.specs.Log.{Wrote}
 use Rattle.log.proofs.Writing.{wrote-none, also}
-use Rattle.steps.specs.Steps.{Step, lineOf, lampsOf, withDoor, notOpened, stepOf, stepped, runTo, runCars}
+use Rattle.steps.specs.Steps.{Step, lineOf, lampsOf, notOpened, stepOf, stepped, runTo, runCars}
+use Rattle.world.specs.With.{withDoor}
 use Rattle.steps.specs.declared.JustOpened.{JustOpened}
 use Rattle.door_commands.specs.Commands.{atStop, hasRiderTraversing, unworked, processDoorCommands, commandWords}
 use Rattle.doors_system.specs.Doors.{turnBy, doorTurn, hasTurn, turnOn, stepBy, doorOf, doored, standing, carsOf, doorsWorld, doorsWords}

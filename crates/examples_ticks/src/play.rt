@@ -2,7 +2,7 @@
 ghost use Prim.Native.Nat.{_≤_};
 use crate::show::put_refusal;
 use crate::show::put_tick;
-use crate::text::at_most;
+use laws::at_most;
 use record::Answer;
 use record::record;
 use world::World;

@@ -1,6 +1,5 @@
 // What is printed of a tick: a line of its words, a line a car, a line with the counters and the hall calls.
 ghost use Prim.Native.Nat.{_≤_};
-use crate::text::at_most;
 use crate::text::flush_half;
 use crate::text::put;
 use crate::text::put_digits;
@@ -9,6 +8,7 @@ use crate::text::put_number;
 use crate::text::put_text;
 use door::DoorCommand;
 use door::DoorState;
+use laws::at_most;
 use world::Car;
 use world::ElevatorPhase;
 use world::QueuedCommand;

@@ -2,12 +2,6 @@
 ghost use Prim.Native.Nat.{_≤_};
 use libc::STDOUT_FILENO;
 
-pub fn at_most(count: usize, most: usize) -> usize
-    ensures { λ r. ⌜ r ≤ most ⌝ }
-{
-    if count < most { count } else { most }
-}
-
 // A byte. Past the buffer's end it is dropped.
 pub fn put(out: &mut [u8], at: usize, byte: u8) -> usize {
     if at < out.len() {

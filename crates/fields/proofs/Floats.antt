@@ -7,7 +7,7 @@ use lib.Ieee.{Float, nan, inf, fin, binary64, div, isNan, ofBits, nanBits}
 use lib.Ieee.Bits.{nanBits-is, nanBits-above}
 use borrow.Author.Tests.{lt-ltb, le-ltb}
 use Rattle.float.specs.Float as F64
-use Rattle.float.proofs.Cases.{no, fails}
+use Rattle.laws.proofs.Bools.{no, fails}
 
 only-nan : (x : Float) → isNan x ≡ true → nan ≡ x
 unfolding isNan

@@ -10,27 +10,8 @@ use lib.IntN.{ℤ, pos, negsuc}
 use lib.Ieee.{Float, nan, inf, fin, binary64, up, down, lt, eq, ne, neg, div, isNan, fits, ofBits}
 use lib.Ieee.Fits.{up-pos}
 use borrow.Author.Tests.{ltb-true, ltb-false, eqb-true, eq-eqb}
+use Rattle.laws.proofs.Bools.{no, yes}
 use Rattle.float.specs.Float as F64
-
-pub no : {A : Type 0} → false ≡ true → A
-no h = absurd (true≢false (sym h))
-
-pub yes : {A : Type 0} → true ≡ false → A
-yes h = absurd (true≢false h)
-
-pub holds : {b : Bool} → b ≡ true → T b
-holds h = subst T (sym h) tt
-
-pub fails : {b : Bool} → b ≡ false → T (not b)
-fails h = subst (λ (x : Bool). T (not x)) (sym h) tt
-
-pub and-right : (a b : Bool) → (a && b) ≡ true → b ≡ true
-and-right true b h = h
-and-right false b h = no h
-
-pub and-left : (a b : Bool) → (a && b) ≡ true → a ≡ true
-and-left true b h = refl
-and-left false b h = no h
 
 -- a product with a power of two is 0 only where the other factor is
 pub nil : (m : ℕ) (e : ℤ) → m * up e * 1 ≡ 0 → m ≡ 0

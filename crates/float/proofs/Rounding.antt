@@ -16,7 +16,8 @@ use lib.Ieee.Nearest.{div-same}
 use lib.Ieee.Order.{transfer, round-mono}
 use borrow.Author.Tests.{leb-true, leb-false, le-leb, lt-leb, lt-ltb, ltb-false, eq-eqb}
 use Rattle.float.specs.Float as F64
-use Rattle.float.proofs.Cases.{no, yes, holds, zero-exponent}
+use Rattle.float.proofs.Cases.{zero-exponent}
+use Rattle.laws.proofs.Bools.{no, yes, holds}
 
 -- ---- what the format holds
 

@@ -12,7 +12,8 @@ use lib.Ieee.Order.{round-mono}
 use borrow.Author.Tests.{ltb-false, eq-eqb, lt-ltb}
 use Rattle.float.specs.Float as F64
 use Rattle.float.specs.Facts.{IsF64, EpsilonKeepsSide}
-use Rattle.float.proofs.Cases.{yes, holds, zero-exponent}
+use Rattle.float.proofs.Cases.{zero-exponent}
+use Rattle.laws.proofs.Bools.{yes, holds}
 use Rattle.float.proofs.Rounding.{Plus, plus-round, neg-round, round-own, fits-sign, le-nat}
 
 pub truly : {b : Bool} → T b → b ≡ true

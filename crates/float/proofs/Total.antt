@@ -11,7 +11,8 @@ use lib.Ieee.Fits.{up-pos, down-pos}
 use borrow.Author.Tests.{ltb-true, ltb-false, lt-ltb, le-ltb, eqb-true, eq-eqb}
 use Rattle.float.specs.Float as F64
 use Rattle.float.specs.Facts.{IsF64, TotalOrder}
-use Rattle.float.proofs.Cases.{no, yes, holds, and-left, and-right, zero-exponent}
+use Rattle.float.proofs.Cases.{zero-exponent}
+use Rattle.laws.proofs.Bools.{no, yes, holds, and-left, and-right}
 use Rattle.float.proofs.Rounding.{unique}
 
 -- finite floats: what has a sign first, then by size

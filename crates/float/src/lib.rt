@@ -3,6 +3,9 @@ ghost use mathlib.Core.Path.{_≡_};
 ghost use Rattle.float.specs.Float as Float;
 ghost use Rattle.float.specs.Float.{numberBits};
 
+// EPSILON of movement.rs and systems/movement.rs: `epsilon` of specs/Float.
+pub const EPSILON: f64 = 1e-9;
+
 // f64::abs. 0 - x is -x exactly, and +0 at either zero.
 pub fn abs(x: f64) -> f64
     ensures { λ r. ⌜ r ≡ Float.abs x ⌝ }

@@ -1,6 +1,7 @@
 // Where a tick takes a car: movement.rs, the motion of run and of tick_manual.
 ghost use mathlib.Core.Path.{_≡_};
 ghost use Rattle.landing.specs.Landing as Landing;
+use float::EPSILON;
 use float::abs;
 use leader::LeaderOption;
 use leader::loop_leader_pos;
@@ -18,8 +19,6 @@ use world::Car;
 use world::LineKind;
 use world::Motion;
 use world::SpeedOption;
-
-const EPSILON: f64 = 1e-9;
 
 // Inspection multiplies max speed by the factor.
 fn max_speed(car: Car) -> f64

@@ -12,7 +12,7 @@ use lib.Ieee.{Float}
 use borrow.Author.Tests.{eqb-true, eqb-false, eq-eqb, ne-eqb, not-true}
 use Rattle.float.specs.Float.{totalBefore}
 use Rattle.float.specs.Facts.{TotalOrder}
-use Rattle.float.proofs.Cases.{no, yes, and-left, and-right}
+use Rattle.laws.proofs.Bools.{no, yes, and-left, and-right}
 use Rattle.float.proofs.Total.{total-order}
 use Rattle.world.specs.World.{carAt}
 use Rattle.leader.specs.Leader.{positionOf, isOther, carAhead, leaderOr, leaderTo, leaderPos, loopLeaderPos, IsOther, Led, LeaderIsNearest}

@@ -4,7 +4,7 @@ ghost use mathlib.Core.Bool.{true};
 ghost use Rattle.leader.specs.Leader.{isOtherCar, loopLeaderPos, LeaderIsNearest};
 ghost use Rattle.leader.specs.Ahead.{isNearer};
 use float::total_before;
-use lookup::stops::count_in;
+use laws::at_most;
 use motion::cyclic::forward_distance;
 use world::Car;
 
@@ -39,7 +39,7 @@ pub fn loop_leader_pos(
 ) -> LeaderOption
     ensures { λ r. ⌜ r ≡ loopLeaderPos cars «car_count» me line pos circumference ⌝ }
 {
-    let n = count_in(car_count, 16);
+    let n = at_most(car_count, 16);
     // Plain variables: a copy of an enum waits for its padding.
     let mut found = false;
     let mut nearest: f64 = 0.0;

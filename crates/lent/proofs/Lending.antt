@@ -8,7 +8,8 @@ use Rattle.world.specs.World.{emptyWorld}
 use Rattle.sound.specs.Sound.{anyTo, countsBroken, broken}
 use Rattle.world.specs.declared.World.{World}
 use Rattle.log.specs.Words.{tickWord}
-use Rattle.steps.specs.Steps.{plus, runTo, runCars}
+use Rattle.steps.specs.Steps.{runTo, runCars}
+use Rattle.laws.specs.Numbers.{plus}
 use Rattle.movement_system.specs.Movement.{moved}
 use Rattle.hall_calls.specs.Clearing.{clearWordsTo}
 use Rattle.doors_system.specs.Doors.{doored, doorsWorld, doorsWords}

@@ -4,6 +4,7 @@ ghost use Prim.Native.Nat.{min};
 ghost use Rattle.world.specs.World.{stopAt};
 ghost use Rattle.lookup.specs.Stops.{standsAt, findStopAtPosition, findStopAtPositionIn, elevatorLineServes};
 use float::abs;
+use laws::at_most;
 use world::Line;
 use world::StopOption;
 
@@ -14,13 +15,6 @@ pub struct Serves {
     pub listed: bool,
     pub serves: [u8; 64],
     pub serves_count: usize,
-}
-
-// The smaller of a count and its table's size.
-pub fn count_in(count: usize, size: usize) -> usize
-    ensures { λ r. ⌜ r ≡ min count size ⌝ }
-{
-    if count < size { count } else { size }
 }
 
 // world.rs, stop_position. Not a number past the table.
@@ -43,7 +37,7 @@ fn stands_at(stop: f64, position: f64) -> bool
 pub fn find_stop_at_position(stops: &[f64; 64], stop_count: usize, position: f64) -> StopOption
     ensures { λ r. ⌜ r ≡ findStopAtPosition (now (stops .entry)) «stop_count» position ⌝ }
 {
-    let n = count_in(stop_count, 64);
+    let n = at_most(stop_count, 64);
     let mut s: usize = 0;
     while s < n {
         if stands_at(stops[s], position) {
@@ -63,7 +57,7 @@ pub fn find_stop_at_position_in(
 ) -> StopOption
     ensures { λ r. ⌜ r ≡ findStopAtPositionIn (now (stops .entry)) position (now (serves .entry)) «serves_count» ⌝ }
 {
-    let n = count_in(serves_count, 64);
+    let n = at_most(serves_count, 64);
     let mut i: usize = 0;
     while i < n {
         let s = serves[i];

@@ -14,7 +14,8 @@ use borrow.Author.Tests.{ltb-true, ltb-false, eqb-true, eqb-false, lt-ltb, le-lt
 use Rattle.float.specs.Float as F64
 use Rattle.motion.specs.Cyclic.{degenerate, wrapPosition, forwardDistance}
 use Rattle.motion.specs.Facts.{IsCircle, WrapInCircle, ForwardInCircle, ForwardIsNumber}
-use Rattle.float.proofs.Cases.{no, yes, holds, lt-zero-pos, lt-zero-neg, nil, and-left}
+use Rattle.float.proofs.Cases.{lt-zero-pos, lt-zero-neg, nil}
+use Rattle.laws.proofs.Bools.{no, yes, holds, and-left}
 use Rattle.float.proofs.Rounding.{own, Plus, plus-round, neg-round, Within, within-neg, within-of-le, le-true}
 
 -- a fraction of at most c is at most c when it is rounded

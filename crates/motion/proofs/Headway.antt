@@ -15,7 +15,7 @@ use Rattle.float.specs.Float as F64
 use Rattle.motion.specs.Cyclic.{wrapPosition, forwardDistance}
 use Rattle.motion.specs.Movement.{headwayClampTarget}
 use Rattle.motion.specs.Facts.{IsCircle, InCircle, WrapInCircle, ForwardInCircle, HeadwayInCircle}
-use Rattle.float.proofs.Cases.{no, yes, holds}
+use Rattle.laws.proofs.Bools.{no, yes, holds}
 use Rattle.float.proofs.Rounding.{Plus, plus-round, Within, le-nat}
 use Rattle.float.proofs.Sides.{over}
 use Rattle.motion.proofs.Circle.{le-zero-plus, null-le-zero, minus-le-zero, lt-nat, wrap-in-circle, Placed, placed-minus, placed, over-one, signed-within, forward-in-circle}

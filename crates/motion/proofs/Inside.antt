@@ -12,7 +12,8 @@ use lib.Ieee.Scale.{round-same}
 use borrow.Author.Tests.{ltb-true, le-ltb, ne-eqb}
 use Rattle.float.specs.Float as F64
 use Rattle.float.specs.Facts.{IsF64}
-use Rattle.float.proofs.Cases.{no, holds, zero-exponent}
+use Rattle.float.proofs.Cases.{zero-exponent}
+use Rattle.laws.proofs.Bools.{no, holds}
 use Rattle.float.proofs.Rounding.{round-own}
 use Rattle.motion.specs.Cyclic.{degenerate, wrapPosition}
 use Rattle.motion.specs.Facts.{InCircle}

@@ -3,14 +3,13 @@ ghost use mathlib.Core.Path.{_≡_};
 ghost use Rattle.motion.specs.Movement as Movement;
 use crate::cyclic::forward_distance;
 use crate::cyclic::wrap_position;
+use float::EPSILON;
 use float::abs;
 use float::is_finite;
 use float::max;
 use float::signum;
 use velocity::fp::fma;
 use velocity::new_velocity;
-
-const EPSILON: f64 = 1e-9;
 
 // The distance in which a car brakes to a stop; 0 where the rate is 0 or below.
 #[no_mangle]

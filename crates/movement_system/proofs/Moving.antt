@@ -10,7 +10,7 @@ use lib.ListN.{set}
 use lib.Seq.{set-getD}
 use lib.Ieee.{Float}
 use Rattle.motion.specs.declared.movement.MovementResult.{MovementResult}
-use Rattle.float.proofs.Cases.{yes, no}
+use Rattle.laws.proofs.Bools.{yes, no}
 use Rattle.world.specs.World.{carAt, lineAt, noCar}
 use Rattle.world.specs.declared.World.{World}
 use Rattle.world.specs.declared.Car.{Car}
@@ -20,13 +20,15 @@ use Rattle.world.specs.declared.LineKind.the-variants.{Linear, Loop}
 use Rattle.leader.specs.declared.LeaderOption.{LeaderOption}
 use Rattle.log.specs.Log.{Wrote}
 use Rattle.log.proofs.Writing.{also, wrote-none}
-use Rattle.steps.specs.Steps.{plus, Step, lineOf, lampsOf, placed, stepped, notOpened, runTo, runCars}
+use Rattle.steps.specs.Steps.{Step, lineOf, lampsOf, stepped, notOpened, runTo, runCars}
+use Rattle.world.specs.With.{placed}
+use Rattle.laws.specs.Numbers.{plus}
 use Rattle.steps.specs.declared.JustOpened.{JustOpened}
 use Rattle.doors_system.specs.Doors.{standing, doorsWorld, doorsWords}
 use Rattle.doors_system.proofs.Running.{Runs}
 use Rattle.hall_calls.specs.Clearing.{Standing, Clears, clearTo, clearWordsTo}
 use Rattle.hall_calls.specs.declared.Calls.{Calls}
-use Rattle.steps.specs.declared.Lamps.{Lamps}
+use Rattle.world.specs.declared.Lamps.{Lamps}
 use Rattle.trips.specs.Trips.{isTrip, isLoop, tripOf}
 use Rattle.landing.specs.Landing.{leaderOf, landing}
 use Rattle.arrival.specs.Arrival.{asksWork, workOf}

@@ -5,12 +5,12 @@ use mathlib.Core.List.{List}
 use Prim.Native.Nat.{ℕ}
 use lib.Ieee.{Float}
 use Rattle.motion.specs.declared.movement.MovementResult.{MovementResult}
-use Rattle.float.proofs.Cases.{yes, no}
+use Rattle.laws.proofs.Bools.{yes, no}
 use Rattle.world.specs.declared.Car.{Car}
 use Rattle.world.specs.declared.LineKind.{LineKind}
 use Rattle.world.specs.declared.LineKind.the-variants.{Linear, Loop}
 use Rattle.steps.specs.Steps.{lampsOf}
-use Rattle.steps.specs.declared.Lamps.{Lamps}
+use Rattle.world.specs.declared.Lamps.{Lamps}
 use Rattle.trips.specs.Trips.{isTrip}
 use Rattle.arrival.specs.Arrival.{asksWork, popped}
 use Rattle.trips.specs.declared.Trip.{Trip}

@@ -7,7 +7,7 @@ use native.Mathlib.Omega.{arith}
 use lib.Dec.{ltb, eqb}
 use lib.Ieee.{Float, nan, inf, fin, up, down, below, level, lt, eq, le, isNan}
 use borrow.Author.Tests.{ltb-true, ltb-false, lt-ltb, le-ltb, eq-eqb, eqb-true}
-use Rattle.float.proofs.Cases.{no, yes, and-left, and-right}
+use Rattle.laws.proofs.Bools.{no, yes, and-left, and-right}
 use Rattle.world.specs.World.{stopAt}
 use Rattle.sorted.specs.Sorted.{positionBefore, stopBefore}
 use Rattle.sorted.proofs.Order.{not-through, not-later}

@@ -17,8 +17,10 @@ use Rattle.world.specs.declared.TickOption.the-variants.{AtTick}
 use Rattle.sorted.specs.Sorted.{sortedStops}
 use Rattle.log.specs.Words.{wordOf}
 use Rattle.log.specs.declared.Event.the-variants.{ElevatorArrived, ElevatorRepositioned, ElevatorIdle}
-use Rattle.steps.specs.Steps.{plus, lineOf, lampsOf, bothLit, updateIndicators, withMoved, withArrived, Step, Run, notOpened, runCars}
-use Rattle.steps.specs.declared.Lamps.{Lamps}
+use Rattle.steps.specs.Steps.{lineOf, lampsOf, bothLit, updateIndicators, withMoved, Step, Run, notOpened, runCars}
+use Rattle.world.specs.With.{withArrived}
+use Rattle.laws.specs.Numbers.{plus}
+use Rattle.world.specs.declared.Lamps.{Lamps}
 use Rattle.trips.specs.Trips.{tripOf, travelled, distanceAfter}
 use Rattle.trips.specs.Spans.{spanOf, manualSpan, movingUp}
 use Rattle.landing.specs.Landing.{leaderOf, landing}

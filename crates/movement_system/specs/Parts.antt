@@ -10,8 +10,9 @@ use Rattle.motion.specs.declared.movement.MovementResult.{MovementResult}
 use Rattle.world.specs.declared.Car.{Car}
 use Rattle.world.specs.declared.LineKind.{LineKind}
 use Rattle.log.specs.Log.{Wrote}
-use Rattle.steps.specs.Steps.{plus, lampsOf, Step, notOpened}
-use Rattle.steps.specs.declared.Lamps.{Lamps}
+use Rattle.steps.specs.Steps.{lampsOf, Step, notOpened}
+use Rattle.laws.specs.Numbers.{plus}
+use Rattle.world.specs.declared.Lamps.{Lamps}
 use Rattle.float.specs.Float as Float
 use Rattle.trips.specs.Spans.{movingUp}
 use Rattle.trips.specs.declared.span.Span.{Span}

@@ -13,8 +13,10 @@ use Rattle.world.specs.declared.StopOption.the-variants.{NoStop, Stop}
 use Rattle.world.specs.declared.TickOption.the-variants.{AtTick}
 use Rattle.log.specs.Words.{wordOf}
 use Rattle.log.specs.declared.Event.the-variants.{ElevatorArrived, ElevatorRepositioned, ElevatorIdle}
-use Rattle.steps.specs.Steps.{plus, bothLit, updateIndicators, withArrived}
-use Rattle.steps.specs.declared.Lamps.{Lamps}
+use Rattle.steps.specs.Steps.{bothLit, updateIndicators}
+use Rattle.world.specs.With.{withArrived}
+use Rattle.laws.specs.Numbers.{plus}
+use Rattle.world.specs.declared.Lamps.{Lamps}
 use Rattle.trips.specs.Trips.{travelled, distanceAfter}
 use Rattle.trips.specs.Spans.{spanOf, manualSpan}
 use Rattle.arrival.specs.Arrival.{popped}

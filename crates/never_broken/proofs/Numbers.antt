@@ -22,7 +22,7 @@ use Rattle.world.specs.declared.CarOption.{CarOption}
 use Rattle.world.specs.declared.CarOption.the-variants.{NoCar, OfCar}
 use Rattle.sound.proofs.Unbroken.{or-left, or-right}
 use Rattle.world.proofs.Bits.{bit-room}
-use Rattle.tick.proofs.Passed.{both, cases}
+use Rattle.laws.proofs.Choices.{both, cases}
 
 -- ---- tables
 

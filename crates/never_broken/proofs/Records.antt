@@ -26,7 +26,7 @@ use Rattle.world.specs.declared.ElevatorPhase.the-variants.{MovingToStop, Repos
 use Rattle.world.specs.declared.ServiceMode.{ServiceMode}
 use Rattle.world.specs.declared.SpeedOption.{SpeedOption}
 use Rattle.world.specs.declared.refusal.Refusal.{Refusal}
-use Rattle.float.proofs.Cases.{and-left, and-right}
+use Rattle.laws.proofs.Bools.{and-left, and-right}
 use Rattle.sound.proofs.Unbroken.{or-left, or-right}
 use Rattle.tape.specs.Tape.{decoded}
 use Rattle.tape.specs.Facts.{InBounds, Facts}
@@ -45,7 +45,7 @@ use Rattle.requests.specs.Requests.{commandChecks, callChecks, destinationCheck
 use Rattle.record.specs.declared.Answer.{Answer}
 use Rattle.record.specs.declared.Answer.the-variants.{Accepted, Refused}
 use Rattle.record.specs.Record.{Outcome, refused, unless, changed, tickChecks, ticked, tickOnce, taken, readBy, recordOf}
-use Rattle.tick.proofs.Passed.{both, cases}
+use Rattle.laws.proofs.Choices.{both, cases}
 use Rattle.never_broken.proofs.Numbers.{table-set, line-stays, rider-stays, press-stays}
 use Rattle.never_broken.proofs.Turns.{QueueIn, CarIn, car-in-stays}
 use Rattle.never_broken.proofs.Worlds.{CarsIn, RidersIn, Sound, cars-set, counters-set, tick-sound}

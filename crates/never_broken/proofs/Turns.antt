@@ -28,8 +28,8 @@ use Rattle.world.specs.declared.StopOption.the-variants.{NoStop, Stop}
 use Rattle.next_stop.specs.NextStop.{loopNextStopForward, nextStopBy, loopNextStopForCar}
 use Rattle.next_stop.proofs.Served.{next-is-served}
 use Rattle.steps.specs.Steps.{lineOf, Step}
-use Rattle.steps.specs.declared.Lamps.{Lamps}
-use Rattle.steps.specs.declared.Queue.{Queue}
+use Rattle.world.specs.declared.Lamps.{Lamps}
+use Rattle.world.specs.declared.Queue.{Queue}
 use Rattle.trips.specs.Spans.{spanOf, manualSpan}
 use Rattle.arrival.specs.Arrival.{shifted, popped, arrivalLamps}
 use Rattle.trips.specs.declared.Trip.{Trip}
@@ -40,7 +40,7 @@ use Rattle.doors_system.specs.Doors.{doorTurn}
 use Rattle.door_ticks.specs.Ticks.{Turn, rested, finishedClosing, finishBy, stays, doorBy}
 use Rattle.door_commands.specs.declared.Tried.{Tried}
 use Rattle.door_commands.specs.declared.Work.{Work}
-use Rattle.tick.proofs.Passed.{both}
+use Rattle.laws.proofs.Choices.{both}
 use Rattle.never_broken.proofs.Numbers.{still-loaded, stop-stays, phase-stays, listed}
 
 -- ---- what refusal 0 asks of a car, but for its counter

@@ -27,7 +27,7 @@ use Rattle.doors_system.specs.Doors.{doorOf, doored, standing, carsOf, doorsWor
 use Rattle.hall_calls.specs.Clearing.{Standing, clears, clearOne, clearMatching, clearTo, openedOf}
 use Rattle.tick.specs.Tick.{tickWorld}
 use Rattle.tick.specs.Counters.{Counts, NothingWraps}
-use Rattle.tick.proofs.Passed.{both}
+use Rattle.laws.proofs.Choices.{both}
 use Rattle.tick.proofs.Proved.{nothing-wraps}
 use Rattle.never_broken.proofs.Numbers.{table-set, clear-most}
 use Rattle.never_broken.proofs.Turns.{CarIn, move-in, door-in, next-in, line-in}

@@ -1,8 +1,9 @@
 // The next stop of a loop: dispatch/mod.rs.
 ghost use mathlib.Core.Path.{_≡_};
 ghost use Rattle.next_stop.specs.NextStop.{aheadOf, nearer, stopOf, loopNextStopForward, loopNextStopForCar};
+use float::EPSILON;
 use float::is_finite;
-use lookup::stops::count_in;
+use laws::at_most;
 use lookup::stops::stop_position;
 use motion::cyclic::forward_distance;
 use world::Line;
@@ -20,7 +21,7 @@ fn ahead_of(circumference: f64, position: f64, stop: f64) -> f64
     ensures { λ r. ⌜ r ≡ aheadOf circumference position stop ⌝ }
 {
     let d = forward_distance(position, stop, circumference);
-    if d <= 1e-9 { circumference } else { d }
+    if d <= EPSILON { circumference } else { d }
 }
 
 // The nearer of two stops, the earlier where neither is.
@@ -67,7 +68,7 @@ pub fn loop_next_stop_forward(
     if !is_finite(position) | (!is_finite(circumference) | (circumference <= 0.0)) {
         return StopOption::NoStop;
     }
-    let n = count_in(serves_count, 64);
+    let n = at_most(serves_count, 64);
     let mut best = Nearest::NoneYet;
     let mut i: usize = 0;
     while i < n {

@@ -4,13 +4,13 @@ ghost use Rattle.orders.specs.Orders as Orders;
 use changes::Changed;
 use changes::accepted;
 use changes::refused;
-use modes::with_orders;
 use sound::unloaded;
 use world::Car;
 use world::ElevatorPhase;
 use world::StopOption;
 use world::World;
 use world::refusal::Refusal;
+use world::with::with_orders;
 
 fn can_go(phase: ElevatorPhase) -> bool
     ensures { λ r. ⌜ r ≡ Orders.canGo phase ⌝ }

@@ -8,7 +8,7 @@ use borrow.Author.Tests.{ltb-true, not-true}
 use lib.Dec.{ltb, eqb}
 use lib.ListN.{length, take, drop, length-append, length-drop, length-take}
 use lib.Seq.{take-all, drop-drop}
-use Rattle.float.proofs.Cases.{and-left, and-right}
+use Rattle.laws.proofs.Bools.{and-left, and-right}
 use Rattle.world.specs.declared.World.{World}
 use Rattle.log.specs.Log.{Wrote}
 use Rattle.log.proofs.Writing.{wrote-none, wrote-length, wrote-fits, also}
@@ -17,7 +17,7 @@ use Rattle.record.specs.Record.{Outcome, recordOf, isAccepted, usedOf}
 use Rattle.record.specs.declared.Recorded.{Recorded}
 use Rattle.conditions.specs.Conditions.{Kept, FirstCondition}
 use Rattle.conditions.proofs.Answering.{first-condition}
-use Rattle.report.specs.Report.{bit}
+use Rattle.laws.specs.Numbers.{bit}
 use Rattle.report.specs.declared.Counts.{Counts}
 use Rattle.study_text.specs.Text.{wordsOf}
 use Rattle.study_text.proofs.Putting.{take-min}

@@ -7,6 +7,7 @@ ghost use lib.ListN.{length, take};
 ghost use Rattle.pieces.specs.Pieces.{Gives, advanced, playing, playTo, fresh};
 ghost use Rattle.pieces.specs.Pieces.{goes as goesOn};
 ghost use Rattle.pieces.specs.Parts.{Reached, Closes};
+use laws::at_most;
 use lent::turn;
 use play::finish;
 use play::tell_answer;
@@ -144,12 +145,6 @@ fn close(step: Step, ended: bool, left: usize, out: &mut [u8]) -> Closed
         at: step.at,
         over: step.over,
     }
-}
-
-fn at_most(count: usize, most: usize) -> usize
-    ensures { λ r. ⌜ r ≡ min count most ⌝ }
-{
-    if count < most { count } else { most }
 }
 
 // `advance`, on slices of these lengths.

@@ -16,10 +16,10 @@ use doors_system::has_turn;
 use hall_calls::clear_hall_calls;
 use landing::landing;
 use landing::leader_of;
+use laws::at_most;
 use leader::LeaderOption;
 use log::Event;
 use log::emit;
-use lookup::stops::count_in;
 use movement_system::turn::tell;
 use moves::come;
 use moves::distance_by;
@@ -208,7 +208,7 @@ pub fn record(world: World, words: &[u32], log: &mut [u32]) -> Recorded
     ensures { λ r. ⌜ Call.Gives r (now (log .exit)) (Call.recordOf world (now (words .entry)) (now (log .entry))) ⌝ }
 {
     let mut w = world;
-    let cars = count_in(w.car_count, 16);
+    let cars = at_most(w.car_count, 16);
     // refusal 0
     let mut broken = rest_broken(w);
     let mut i: usize = 0;

@@ -10,7 +10,7 @@ use lib.ListN.{length, getD, set, replicate, length-append}
 use lib.Seq.{append-snoc, getD-append-seam, set-append-seam}
 use lib.Ieee.{Float}
 use borrow.Author.Tests.{eqb-true, eqb-false, ne-eqb}
-use Rattle.float.proofs.Cases.{yes}
+use Rattle.laws.proofs.Bools.{yes}
 use Rattle.sorted.specs.Sorted.{stopBefore, inserted, sortedStops, sortedTable, times, StopsSorted}
 use Rattle.sorted.proofs.Order.{before-through, before-either, stops-order}
 

@@ -9,7 +9,7 @@ use lib.Dec.{ltb}
 use lib.Ieee.{Float, nan, inf, fin, up, down, below, lt, isNan}
 use lib.Ieee.Fits.{down-pos}
 use borrow.Author.Tests.{ltb-true, ltb-false, lt-ltb, le-ltb}
-use Rattle.float.proofs.Cases.{no, yes}
+use Rattle.laws.proofs.Bools.{no, yes}
 use Rattle.world.specs.World.{stopAt}
 use Rattle.sorted.specs.Sorted.{positionBefore, stopBefore, IsOrder}
 

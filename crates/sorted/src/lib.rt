@@ -3,7 +3,7 @@ ghost use mathlib.Core.Path.{_≡_};
 ghost use mathlib.Core.Bool.{true, not};
 ghost use Prim.Native.Nat.{_+_, _<_, min};
 ghost use Rattle.sorted.specs.Sorted.{positionBefore, stopBefore, sortedTable, StopsSorted};
-use lookup::stops::count_in;
+use laws::at_most;
 use lookup::stops::stop_position;
 
 // Whether a position comes before another: 0 and -0 alike, one that is not a number last.
@@ -54,7 +54,7 @@ fn insert(order: &mut [u8; 64], stops: &[f64; 64], i: usize)
 pub fn sorted_stops(stops: &[f64; 64], stop_count: usize) -> [u8; 64]
     ensures { λ r. ⌜ r ≡ sortedTable (now (stops .entry)) (min «stop_count» 64) ⌝ }
 {
-    let n = count_in(stop_count, 64);
+    let n = at_most(stop_count, 64);
     let mut order = [0u8; 64];
     let mut i: usize = 0;
     while i < n {

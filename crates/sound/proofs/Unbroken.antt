@@ -5,7 +5,7 @@ use Prim.Native.Nat.{_≤_, _<_, _^_, min}
 use native.Mathlib.Omega.{arith}
 use lib.Dec.{leb, ltb}
 use borrow.Author.Tests.{ltb-false, leb-false}
-use Rattle.float.proofs.Cases.{yes}
+use Rattle.laws.proofs.Bools.{yes}
 use Rattle.sound.specs.Sound.{anyTo, lineBroken, riderBroken, callsUnloaded, countsBroken, broken}
 use Rattle.world.specs.World.{lineAt, riderAt}
 use Rattle.sound.specs.Parts.{restBroken, carsBroken}

@@ -21,13 +21,10 @@ use Rattle.world.specs.declared.StopOption.the-variants.{NoStop, Stop}
 use Rattle.world.specs.declared.TickOption.{TickOption}
 use Rattle.log.specs.Words.{wordOf}
 use Rattle.log.specs.declared.Event.the-variants.{DirectionIndicatorChanged}
-use Rattle.steps.specs.declared.Lamps.{Lamps}
-use Rattle.steps.specs.declared.Queue.{Queue}
+use Rattle.world.specs.declared.Lamps.{Lamps}
 use Rattle.steps.specs.declared.JustOpened.{JustOpened}
-
--- `+` of u64. No counter below 2 to the 48 comes near its end in a tick: NothingWraps of the crate `tick`.
-unfoldable pub plus : ℕ → ℕ → ℕ
-plus a b = (a + b) % 2 ^ 64
+use Rattle.laws.specs.Numbers.{plus}
+use Rattle.world.specs.With.{placed, withTurn}
 
 -- a car's line; past the table a linear one without a list, which refusal 0 keeps away
 unfoldable pub lineOf : List Line → ℕ → Line
@@ -68,92 +65,9 @@ updateIndicators i was lamps =
 
 -- ---- a car with some of its fields changed
 
--- with a position, a velocity and a count of moves
-abbrev pub placed : Car → Float → Float → ℕ → Car
-placed c position velocity count = record {
-  line = c .line;
-  phase = c .phase;
-  door = c .door;
-  «service_mode» = c .«service_mode»;
-  enabled = c .enabled;
-  motion =
-      record {
-        position = position;
-        velocity = velocity;
-        «max_speed» = c .motion .«max_speed»;
-        acceleration = c .motion .acceleration;
-        deceleration = c .motion .deceleration;
-        «inspection_speed_factor» = c .motion .«inspection_speed_factor»;
-      };
-  «door_transition_ticks» = c .«door_transition_ticks»;
-  «door_open_ticks» = c .«door_open_ticks»;
-  «going_up» = c .«going_up»;
-  «going_down» = c .«going_down»;
-  «going_forward» = c .«going_forward»;
-  repositioning = c .repositioning;
-  «target_stop» = c .«target_stop»;
-  «manual_target_velocity» = c .«manual_target_velocity»;
-  «destination_queue» = c .«destination_queue»;
-  «destination_count» = c .«destination_count»;
-  «door_command_queue» = c .«door_command_queue»;
-  «command_count» = c .«command_count»;
-  «move_count» = count;
-  cooldown = c .cooldown;
-}
-
 -- moved: its position and velocity, and so many moves more
 abbrev pub withMoved : Car → Float → Float → ℕ → Car
 withMoved c position velocity moves = placed c position velocity (plus (c .«move_count») moves)
-
--- come to its stop: its phase, door, target, repositioning flag, lamps, queue and cooldown
-abbrev pub withArrived : Car → ElevatorPhase → DoorState → StopOption → Bool → Lamps → Queue → TickOption → Car
-withArrived c phase door target repositioning lamps queue cooldown = record {
-  line = c .line;
-  phase = phase;
-  door = door;
-  «service_mode» = c .«service_mode»;
-  enabled = c .enabled;
-  motion = c .motion;
-  «door_transition_ticks» = c .«door_transition_ticks»;
-  «door_open_ticks» = c .«door_open_ticks»;
-  «going_up» = lamps .«going_up»;
-  «going_down» = lamps .«going_down»;
-  «going_forward» = c .«going_forward»;
-  repositioning = repositioning;
-  «target_stop» = target;
-  «manual_target_velocity» = c .«manual_target_velocity»;
-  «destination_queue» = queue .stops;
-  «destination_count» = queue .count;
-  «door_command_queue» = c .«door_command_queue»;
-  «command_count» = c .«command_count»;
-  «move_count» = c .«move_count»;
-  cooldown = cooldown;
-}
-
--- after its door's turn: its phase, door, target, lamps and command queue
-abbrev pub withDoor : Car → ElevatorPhase → DoorState → StopOption → Lamps → Bool → List QueuedCommand → ℕ → Car
-withDoor c phase door target lamps forward commands count = record {
-  line = c .line;
-  phase = phase;
-  door = door;
-  «service_mode» = c .«service_mode»;
-  enabled = c .enabled;
-  motion = c .motion;
-  «door_transition_ticks» = c .«door_transition_ticks»;
-  «door_open_ticks» = c .«door_open_ticks»;
-  «going_up» = lamps .«going_up»;
-  «going_down» = lamps .«going_down»;
-  «going_forward» = forward;
-  repositioning = c .repositioning;
-  «target_stop» = target;
-  «manual_target_velocity» = c .«manual_target_velocity»;
-  «destination_queue» = c .«destination_queue»;
-  «destination_count» = c .«destination_count»;
-  «door_command_queue» = commands;
-  «command_count» = count;
-  «move_count» = c .«move_count»;
-  cooldown = c .cooldown;
-}
 
 -- ---- a car's turn: the car, its words, the world's totals then, and whether its door has just opened
 
@@ -173,22 +87,7 @@ stepOf w c words opened = record { car = c; words = words; total = w .«total_mo
 
 -- the world after a car's turn
 abbrev pub stepped : World → ℕ → Step → World
-stepped w i s = record {
-  stops = w .stops;
-  «stop_count» = w .«stop_count»;
-  lines = w .lines;
-  «line_count» = w .«line_count»;
-  cars = set (w .cars) i (s .car);
-  «car_count» = w .«car_count»;
-  riders = w .riders;
-  «rider_count» = w .«rider_count»;
-  «up_calls» = w .«up_calls»;
-  «down_calls» = w .«down_calls»;
-  started = w .started;
-  ticks = w .ticks;
-  «total_moves» = s .total;
-  «reposition_distance» = s .distance;
-}
+stepped w i s = withTurn w i (s .car) (s .total) (s .distance)
 
 -- ---- "Cars go in ascending number", each in the world that the one before has left
 

@@ -1,6 +1,7 @@
 // The study: a tape on standard input, its log words and the report on standard output. What is printed is `pieces`' matter; here the input is read
 // and the text written out, in rounds. Of the input only what no record has used yet is kept, so that a tape may have any length.
 ghost use Prim.Native.Nat.{_≤_};
+use laws::at_most;
 use libc::STDERR_FILENO;
 use libc::STDIN_FILENO;
 use libc::STDOUT_FILENO;
@@ -22,12 +23,6 @@ fn flush(out: &[u8], at: usize) -> bool {
     }
     io::write_all(STDERR_FILENO, b"study: cannot write standard output\n");
     false
-}
-
-fn at_most(count: usize, most: usize) -> usize
-    ensures { λ r. ⌜ r ≤ most ⌝ }
-{
-    if count < most { count } else { most }
 }
 
 // What is at hand of the input: so many bytes of the piece, and whether there is an end to it. A read can fail.

@@ -10,7 +10,7 @@ use borrow.Author.Tests.{ltb-false, leb-true, eqb-true, eqb-false}
 use Rattle.world.specs.Refusal.{Check, check, refusalNumber}
 use Rattle.world.specs.declared.refusal.Refusal.{Refusal}
 use Rattle.world.specs.declared.refusal.Refusal.the-variants.{CutShort, UnknownKind}
-use Rattle.float.proofs.Cases.{and-left, and-right}
+use Rattle.laws.proofs.Bools.{and-left, and-right}
 use Rattle.fields.specs.declared.head.Head.{Head}
 use Rattle.tape.specs.declared.Decoded.{Decoded}
 use Rattle.tape.specs.Tape.{Deed, Kind, kindIn, kinds, refused, unless, answer, servesCount, lineRecord, stopRecord, carRecord, riderRecord, sendRecord, modeRecord, manualSpeedRecord, doorCommandRecord, hallCallRecord, destinationRecord, enableRecord, tickRecord, startRecord, recordOf, decoded}

@@ -9,7 +9,7 @@ use native.Mathlib.Omega.{arith}
 use lib.Dec.{ltb, eqb}
 use lib.ListN.{getD}
 use borrow.Author.Tests.{ltb-false}
-use Rattle.float.proofs.Cases.{yes}
+use Rattle.laws.proofs.Bools.{yes}
 use Rattle.tape.specs.Tape.{servesCount, servesOutside}
 
 pub or-left : (a b : Bool) → (a || b) ≡ false → a ≡ false

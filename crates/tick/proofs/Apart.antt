@@ -11,7 +11,7 @@ use lib.Ieee.Fits.{down-pos}
 use lib.Ieee.Order.{round-mono}
 use borrow.Author.Tests.{ltb-true, ltb-false, eq-eqb, lt-ltb}
 use Rattle.float.specs.Float.{epsilon}
-use Rattle.float.proofs.Cases.{no, yes}
+use Rattle.laws.proofs.Bools.{no, yes}
 use Rattle.float.proofs.Rounding.{Plus, plus-round, neg-round, le-nat}
 use Rattle.float.proofs.Sides.{truly, flip, astride}
 use Rattle.sorted.specs.Sorted.{positionBefore}

@@ -8,7 +8,7 @@ use lib.ListN.{length, take, drop, length-append, length-take}
 use lib.Ieee.{Float, binary64, add, sub, lt, le}
 use Rattle.float.specs.Float as Float
 use Rattle.float.specs.Float.{epsilon}
-use Rattle.float.proofs.Cases.{and-left}
+use Rattle.laws.proofs.Bools.{and-left}
 use Rattle.world.specs.World.{stopAt}
 use Rattle.world.specs.declared.LineKind.{LineKind}
 use Rattle.world.specs.declared.LineKind.the-variants.{Linear, Loop}
@@ -21,17 +21,8 @@ use Rattle.movement_system.specs.Passing.{startOf, endOf, between, emitRange, l
 use Rattle.movement_system.specs.Movement.{passedOver}
 use Rattle.movement_system.proofs.Counting.{count-grows, start-most, end-most}
 use Rattle.movement_system.proofs.Emitting.{without-most}
+use Rattle.laws.proofs.Choices.{both, cases}
 use Rattle.tick.proofs.Apart.{ends-apart}
-
--- a choice has what both its sides have
-pub both : {A : Type 0} (P : A → Type 0) (b : Bool) {x y : A} → P x → P y → P (cond b x y)
-both P true p q = p
-both P false p q = q
-
--- and with the test known
-pub cases : {A : Type 0} (P : A → Type 0) (b : Bool) {x y : A} → (b ≡ true → P x) → (b ≡ false → P y) → P (cond b x y)
-cases P true p q = p refl
-cases P false p q = q refl
 
 module _ (stops : List Float) (n : ℕ) (target : StopOption) where
   abbrev ss : List ℕ

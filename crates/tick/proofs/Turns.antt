@@ -20,12 +20,14 @@ use Rattle.world.specs.declared.LineKind.{LineKind}
 use Rattle.world.specs.declared.ElevatorPhase.{ElevatorPhase}
 use Rattle.world.specs.declared.StopOption.{StopOption}
 use Rattle.world.specs.declared.StopOption.the-variants.{NoStop, Stop}
-use Rattle.log.specs.Words.{word, bit, wordOf, codeOf, ticksOf}
+use Rattle.log.specs.Words.{word, wordOf, codeOf, ticksOf}
+use Rattle.laws.specs.Numbers.{bit}
 use Rattle.log.specs.ReadBack.{kindOf}
 use Rattle.log.specs.declared.Event.the-variants.{ElevatorIdle}
 use Rattle.log.proofs.Reading.{kind-word}
-use Rattle.steps.specs.Steps.{plus, lineOf, lampsOf, bothLit, unlit, updateIndicators, Step, notOpened}
-use Rattle.steps.specs.declared.Lamps.{Lamps}
+use Rattle.steps.specs.Steps.{lineOf, lampsOf, bothLit, unlit, updateIndicators, Step, notOpened}
+use Rattle.laws.specs.Numbers.{plus}
+use Rattle.world.specs.declared.Lamps.{Lamps}
 use Rattle.trips.specs.Trips.{tripOf}
 use Rattle.trips.specs.Spans.{spanOf, manualSpan, movingUp}
 use Rattle.landing.specs.Landing.{landing, leaderOf}
@@ -39,7 +41,8 @@ use Rattle.doors_system.specs.Doors.{doorTurn, stepBy, turnOn, doorOf}
 use Rattle.door_ticks.specs.Ticks.{Turn, openedAt, departedFrom, finishedClosing, finishBy, stays, doorBy, after}
 use Rattle.door_commands.specs.declared.Work.{Work}
 use Rattle.tick.specs.Counters.{isMove, movesIn}
-use Rattle.tick.proofs.Passed.{both, span-fits, manual-fits}
+use Rattle.tick.proofs.Passed.{span-fits, manual-fits}
+use Rattle.laws.proofs.Choices.{both}
 
 -- ---- words
 

@@ -8,7 +8,8 @@ use lib.Ieee.{Float}
 use Rattle.world.specs.World.{carAt}
 use Rattle.world.specs.declared.World.{World}
 use Rattle.log.specs.ReadBack.{kindOf}
-use Rattle.steps.specs.Steps.{plus, Step, runTo}
+use Rattle.steps.specs.Steps.{Step, runTo}
+use Rattle.laws.specs.Numbers.{plus}
 use Rattle.movement_system.specs.Movement.{moveOf}
 use Rattle.doors_system.specs.Doors.{carsOf}
 use Rattle.tick.specs.Tick.{tickWorld, tickWords}

@@ -4,12 +4,11 @@ pub mod fp; // fp.rs
 ghost use mathlib.Core.Path.{_≡_};
 ghost use Rattle.velocity.specs.Velocity as Velocity;
 use crate::fp::fma;
+use float::EPSILON;
 use float::abs;
 use float::clamp;
 use float::max;
 use float::signum;
-
-const EPSILON: f64 = 1e-9;
 
 // The arm of tick_movement that slows down; 0 where the sign would flip.
 fn decelerated(velocity: f64, safe_decel: f64, dt: f64) -> f64

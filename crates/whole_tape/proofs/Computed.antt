@@ -14,7 +14,8 @@ use Rattle.leader.specs.Leader.{leaderTo, loopLeaderPos}
 use Rattle.sorted.specs.Sorted.{positionBefore, stopBefore, inserted, sortedStops}
 use Rattle.log.specs.Words.{word, tickWord}
 use Rattle.log.specs.ReadBack.{kindOf}
-use Rattle.steps.specs.Steps.{plus, lineOf, runTo, runCars}
+use Rattle.steps.specs.Steps.{lineOf, runTo, runCars}
+use Rattle.laws.specs.Numbers.{plus}
 use Rattle.arrival.specs.Arrival.{ridersTo, queuedTo, directionFromRemainingWork, popped}
 use Rattle.movement_system.specs.Passing.{countIn, startOf, endOf, between, unlessTarget, without, emitRange, passingWords}
 use Rattle.movement_system.specs.Movement.{moveOf, moved}
@@ -42,9 +43,9 @@ use Rattle.whole_tape.specs.Certified.{made, AllAccepted}
 use Rattle.whole_tape.specs.Example.{PaperTape, PaperCalls}
 
 pub paper-tape : PaperTape
-unfolding PaperTape studyText printed ending wordsOf wordLine wordLines decimalTo reportLine Report.countsOf Report.countMore Report.countedReport Report.plus Report.howMany Report.anyUnknown Report.waitingIn kindOf onesIn ones recordOf Tape.recordOf tickOnce decoded floatAt rawZeroAt servesCount servesOutside servesTo lineFieldsOutside lineFloatsOutside lineKindOf lineRecord loadLine loadStop loadCar start send setMode setManualSpeed queueCommand anyTo lineBroken carBroken riderBroken countsBroken broken roomOf emptyWorld tickWorld tickWords moved moveOf doorsWorld doorsWords doored doorOf clearOne clearWord clearTo clearWordsTo atStop traversingTo hasRiderTraversing workTo workWordsTo processDoorCommands commandWords countIn startOf endOf between unlessTarget without emitRange passingWords ridersTo queuedTo directionFromRemainingWork popped plus lineOf runTo runCars word tickWord positionBefore stopBefore inserted sortedStops leaderTo loopLeaderPos standsAt firstStanding loopNextStopForCar findStopAtPosition called decelerated accelerated newVelocity tickMovement tickMovementCyclic headwayClampTarget manualVelocity wrapPosition forwardDistance abs signum isFinite max clamp remEuclid ofBits add sub mul div rem neg lt le eq isNan
+unfolding PaperTape studyText printed ending wordsOf wordLine wordLines decimalTo reportLine Report.countsOf Report.countMore Report.countedReport Report.howMany Report.anyUnknown Report.waitingIn kindOf onesIn ones recordOf Tape.recordOf tickOnce decoded floatAt rawZeroAt servesCount servesOutside servesTo lineFieldsOutside lineFloatsOutside lineKindOf lineRecord loadLine loadStop loadCar start send setMode setManualSpeed queueCommand anyTo lineBroken carBroken riderBroken countsBroken broken roomOf emptyWorld tickWorld tickWords moved moveOf doorsWorld doorsWords doored doorOf clearOne clearWord clearTo clearWordsTo atStop traversingTo hasRiderTraversing workTo workWordsTo processDoorCommands commandWords countIn startOf endOf between unlessTarget without emitRange passingWords ridersTo queuedTo directionFromRemainingWork popped plus lineOf runTo runCars word tickWord positionBefore stopBefore inserted sortedStops leaderTo loopLeaderPos standsAt firstStanding loopNextStopForCar findStopAtPosition called decelerated accelerated newVelocity tickMovement tickMovementCyclic headwayClampTarget manualVelocity wrapPosition forwardDistance abs signum isFinite max clamp remEuclid ofBits add sub mul div rem neg lt le eq isNan
 paper-tape = refl
 
 pub paper-calls : PaperCalls
-unfolding made AllAccepted outcome next ending wordsOf wordLine wordLines decimalTo reportLine Report.countsOf Report.countMore Report.countedReport Report.plus Report.howMany Report.anyUnknown Report.waitingIn kindOf onesIn ones recordOf Tape.recordOf tickOnce decoded floatAt rawZeroAt servesCount servesOutside servesTo lineFieldsOutside lineFloatsOutside lineKindOf lineRecord loadLine loadStop loadCar start send setMode setManualSpeed queueCommand anyTo lineBroken carBroken riderBroken countsBroken broken roomOf emptyWorld tickWorld tickWords moved moveOf doorsWorld doorsWords doored doorOf clearOne clearWord clearTo clearWordsTo atStop traversingTo hasRiderTraversing workTo workWordsTo processDoorCommands commandWords countIn startOf endOf between unlessTarget without emitRange passingWords ridersTo queuedTo directionFromRemainingWork popped plus lineOf runTo runCars word tickWord positionBefore stopBefore inserted sortedStops leaderTo loopLeaderPos standsAt firstStanding loopNextStopForCar findStopAtPosition called decelerated accelerated newVelocity tickMovement tickMovementCyclic headwayClampTarget manualVelocity wrapPosition forwardDistance abs signum isFinite max clamp remEuclid ofBits add sub mul div rem neg lt le eq isNan
+unfolding made AllAccepted outcome next ending wordsOf wordLine wordLines decimalTo reportLine Report.countsOf Report.countMore Report.countedReport Report.howMany Report.anyUnknown Report.waitingIn kindOf onesIn ones recordOf Tape.recordOf tickOnce decoded floatAt rawZeroAt servesCount servesOutside servesTo lineFieldsOutside lineFloatsOutside lineKindOf lineRecord loadLine loadStop loadCar start send setMode setManualSpeed queueCommand anyTo lineBroken carBroken riderBroken countsBroken broken roomOf emptyWorld tickWorld tickWords moved moveOf doorsWorld doorsWords doored doorOf clearOne clearWord clearTo clearWordsTo atStop traversingTo hasRiderTraversing workTo workWordsTo processDoorCommands commandWords countIn startOf endOf between unlessTarget without emitRange passingWords ridersTo queuedTo directionFromRemainingWork popped plus lineOf runTo runCars word tickWord positionBefore stopBefore inserted sortedStops leaderTo loopLeaderPos standsAt firstStanding loopNextStopForCar findStopAtPosition called decelerated accelerated newVelocity tickMovement tickMovementCyclic headwayClampTarget manualVelocity wrapPosition forwardDistance abs signum isFinite max clamp remEuclid ofBits add sub mul div rem neg lt le eq isNan
 paper-calls = record { ten = refl; accepted = (refl, (refl, (refl, (refl, (refl, (refl, (refl, (refl, (refl, (refl, tt)))))))))); none = refl }

@@ -19,7 +19,7 @@ use Rattle.study_text.specs.Text.{word, wordsOf}
 use Rattle.play.specs.Play.{told, countsAfter, ending}
 use Rattle.pieces.specs.Pieces.{Playing, after, nextRecord, ready, hasRoom, goes, playTo, ends, closed, close, advanced, playing, fresh}
 use Rattle.pieces.proofs.Sizes.{words-drop, words-few}
-use Rattle.float.proofs.Cases.{and-left, and-right}
+use Rattle.laws.proofs.Bools.{and-left, and-right}
 use Rattle.whole_tape.specs.Study.{goesOn, printed, studyText}
 use Rattle.whole_tape.specs.WholeTape.{Longest, stillPrints, begun, Round, given, emptied, round, afterRounds, wroteOut, allRead, InOrder, Rounds, Over}
 use Rattle.whole_tape.proofs.Ignoring.{longest}

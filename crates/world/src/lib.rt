@@ -3,6 +3,7 @@
 pub mod calls; // sets of hall calls
 pub mod empty; // a new car, the empty world
 pub mod refusal; // the refusals and their numbers
+pub mod with; // a car with some of its fields changed
 
 use door::DoorCommand;
 use door::DoorState;
@@ -125,6 +126,18 @@ pub struct Rider {
     pub destination: StopOption,
     pub phase: RiderPhase,
     pub aboard: CarOption,
+}
+
+// The lamps (direction indicators) of a car on a linear line.
+pub struct Lamps {
+    pub going_up: bool,
+    pub going_down: bool,
+}
+
+// A car's queue of destinations.
+pub struct Queue {
+    pub stops: [u8; 8],
+    pub count: usize,
 }
 
 pub struct World {

@@ -6,7 +6,7 @@ use lib.Dec.{ltb, eqb}
 use lib.ListN.{getD}
 use borrow.Author.Needs.{needs}
 use borrow.Author.Tests.{ltb-true}
-use Rattle.float.proofs.Cases.{and-left}
+use Rattle.laws.proofs.Bools.{and-left}
 use Rattle.arrival.specs.Arrival.{popped}
 use Rattle.arrival.proofs.popped.Statement.{statement}
 use Rattle.arrival.proofs.popped.Tie as tie

@@ -24,8 +24,8 @@ loop-again c = (omega arith, rw (add-one, ← c .before .before .before .loop .i
 
 returns : tie.Need-returns Inv-loop μ-loop
 returns c =
-    let k : c .before .before .count-in .result ≡ min (c .before .before .before .args .rider-count) 128 = c .before .before .count-in .ensures in
-    let e : c .before .loop .n ≡ c .before .before .count-in .result = omega arith in
+    let k : c .before .before .at-most .result ≡ min (c .before .before .before .args .rider-count) 128 = c .before .before .at-most .ensures in
+    let e : c .before .loop .n ≡ c .before .before .at-most .result = omega arith in
     rw (← k, ← e) (c .before .loop .inv .1)
 
 pub riders-need-spec : {M : Type 1} → statement M

@@ -2,7 +2,8 @@
 use mathlib.Core.Path.{sym, _∙_}
 use borrow.Author.Needs.{needs}
 use Rattle.float.specs.Float.{numberBits}
-use Rattle.float.proofs.Cases.{ne-self, fails}
+use Rattle.float.proofs.Cases.{ne-self}
+use Rattle.laws.proofs.Bools.{fails}
 use Rattle.beside_ticks.proofs.bits.Statement.{statement}
 use Rattle.beside_ticks.proofs.bits.Tie as tie
 

@@ -5,7 +5,7 @@ use native.Mathlib.Omega.{arith}
 use lib.ListN.{length}
 use borrow.Author.Needs.{needs}
 use Rattle.beside_ticks.specs.Bench.{playedTo, Reached}
-use Rattle.steps.specs.Steps.{plus}
+use Rattle.laws.specs.Numbers.{plus}
 use Rattle.beside_ticks.proofs.Playing.{begins, rest-of, within, stays, again}
 use Rattle.beside_ticks.proofs.by_value.Statement.{statement}
 use Rattle.beside_ticks.proofs.by_value.Tie as tie

@@ -1,6 +1,6 @@
 -- `beside_ticks::sum` meets its contract. Assumes nothing.
 use borrow.Author.Needs.{needs}
-use Rattle.steps.specs.Steps.{plus}
+use Rattle.laws.specs.Numbers.{plus}
 use Rattle.beside_ticks.proofs.sum.Statement.{statement}
 use Rattle.beside_ticks.proofs.sum.Tie as tie
 

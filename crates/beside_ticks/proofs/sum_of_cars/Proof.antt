@@ -4,7 +4,7 @@ use Prim.Native.Nat.{_≤_, _-_}
 use native.Mathlib.Numerals.{add-one}
 use native.Mathlib.Omega.{arith}
 use borrow.Author.Needs.{needs}
-use Rattle.steps.specs.Steps.{plus}
+use Rattle.laws.specs.Numbers.{plus}
 use Rattle.beside_ticks.specs.Bench.{sumTo}
 use Rattle.beside_ticks.proofs.sum_of_cars.Statement.{statement}
 use Rattle.beside_ticks.proofs.sum_of_cars.Tie as tie

@@ -1,7 +1,8 @@
 -- `float::number_bits` meets its contract. Assumes nothing.
 use mathlib.Core.Path.{sym, _∙_}
 use Rattle.float.specs.Float.{numberBits}
-use Rattle.float.proofs.Cases.{ne-self, fails}
+use Rattle.float.proofs.Cases.{ne-self}
+use Rattle.laws.proofs.Bools.{fails}
 use Rattle.float.proofs.number_bits.Statement.{statement}
 use Rattle.float.proofs.number_bits.Tie as tie
 

@@ -3,7 +3,8 @@ use mathlib.Core.Path.{_≡_, sym, _∙_}
 use mathlib.Core.Bool.{true, false}
 use lib.Ieee.{isNan}
 use borrow.Author.Tests.{le-leb, lt-leb}
-use Rattle.float.proofs.Cases.{ne-self, fails, signum-of-nan, signum-below, signum-above}
+use Rattle.float.proofs.Cases.{ne-self, signum-of-nan, signum-below, signum-above}
+use Rattle.laws.proofs.Bools.{fails}
 use Rattle.float.proofs.Rounding.{sign-bit}
 use Rattle.float.proofs.signum.Statement.{statement}
 use Rattle.float.proofs.signum.Tie as tie

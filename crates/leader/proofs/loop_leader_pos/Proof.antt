@@ -39,16 +39,16 @@ returns : tie.Need-returns Inv-loop μ-loop
 unfolding loopLeaderPos
 returns c =
     let b = c .before .before in
-    let n : b .before .count-in .result ≡ min (b .before .before .args .car-count) 16 = b .before .count-in .ensures in
-    let e : b .loop .i ≡ b .before .count-in .result = omega arith in
+    let n : b .before .at-most .result ≡ min (b .before .before .args .car-count) 16 = b .before .at-most .ensures in
+    let e : b .loop .i ≡ b .before .at-most .result = omega arith in
     rw (← n, ← e) (rw (c .if3 .taken) at (pos-held (b .loop .inv .1)))
 
 returns-2 : tie.Need-returns-2 Inv-loop μ-loop
 unfolding loopLeaderPos
 returns-2 c =
     let b = c .before .before in
-    let n : b .before .count-in .result ≡ min (b .before .before .args .car-count) 16 = b .before .count-in .ensures in
-    let e : b .loop .i ≡ b .before .count-in .result = omega arith in
+    let n : b .before .at-most .result ≡ min (b .before .before .args .car-count) 16 = b .before .at-most .ensures in
+    let e : b .loop .i ≡ b .before .at-most .result = omega arith in
     rw (← n, ← e) (rw (c .if3 .left) at (pos-held (b .loop .inv .1)))
 
 pub loop-leader-pos-spec : {M : Type 1} → statement M

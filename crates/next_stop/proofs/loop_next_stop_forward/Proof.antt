@@ -52,8 +52,8 @@ returns-2 c =
     let p = d .before .before .is-finite in
     let q = d .before .is-finite2 in
     let a = d .before .before .before .args in
-    let n : b .before .count-in .result ≡ min (a .serves-count) 64 = b .before .count-in .ensures in
-    let e : b .loop .i ≡ b .before .count-in .result = omega arith in
+    let n : b .before .at-most .result ≡ min (a .serves-count) 64 = b .before .at-most .ensures in
+    let e : b .loop .i ≡ b .before .at-most .result = omega arith in
     rw (free (a .position) (a .circumference) (p .result) (q .result) (p .ensures) (q .ensures) (d .if1 .left), ← n, ← e, ← b .loop .inv .1) (c .stop-of .ensures)
 
 pub loop-next-stop-forward-spec : {M : Type 1} → statement M

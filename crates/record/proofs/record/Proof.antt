@@ -12,7 +12,8 @@ use Rattle.sound.specs.Sound.{broken, anyTo}
 use Rattle.sound.specs.Parts.{carsBroken}
 use Rattle.sound.proofs.Unbroken.{in-places}
 use Rattle.world.specs.World.{carAt}
-use Rattle.steps.specs.Steps.{plus, stepOf, runTo}
+use Rattle.steps.specs.Steps.{stepOf, runTo}
+use Rattle.laws.specs.Numbers.{plus}
 use Rattle.sorted.specs.Sorted.{sortedTable}
 use Rattle.doors_system.specs.Doors.{doorOf}
 use Rattle.doors_system.proofs.Running.{Runs, same, more, turn-on, door-of, passed, ended}
@@ -47,7 +48,7 @@ abbrev μ-loop3 : tie.MeasureT-loop3
 -- what the first loop has found
 looked : (c : tie.After-loop Inv-loop μ-loop Inv-loop2 μ-loop2 Inv-loop3 μ-loop3) → broken (c .before .before .before .before .before .before .args .world) ≡ c .before .loop .broken
 looked c =
-    let e : c .before .loop .i ≡ min (c .before .before .before .before .before .before .args .world .«car_count») 16 = omega (arith, c .loop-test .left, c .before .loop .inv .0, c .before .before .before .count-in .ensures) in
+    let e : c .before .loop .i ≡ min (c .before .before .before .before .before .before .args .world .«car_count») 16 = omega (arith, c .loop-test .left, c .before .loop .inv .0, c .before .before .before .at-most .ensures) in
     in-places (c .before .before .before .before .before .before .args .world) (c .before .before .rest-broken .result) (sym (c .before .before .rest-broken .ensures)) ∙ sym (rw e at (c .before .loop .inv .1))
 
 whole : (c : tie.Else1 Inv-loop μ-loop Inv-loop2 μ-loop2 Inv-loop3 μ-loop3) → broken (c .before .before .before .before .before .before .before .args .world) ≡ false
@@ -55,10 +56,10 @@ whole c = looked (c .before) ∙ c .if1 .left
 
 -- a car's number is one of the 16 places
 place : (c : tie.In-loop2 Inv-loop μ-loop Inv-loop2 μ-loop2 Inv-loop3 μ-loop3) → c .before .loop2 .i < 16
-place c = omega (arith, c .loop2-test .taken, c .before .before .before .before .before .before .before .before .before .before .before .before .before .before .before .before .before .before .count-in .ensures)
+place c = omega (arith, c .loop2-test .taken, c .before .before .before .before .before .before .before .before .before .before .before .before .before .before .before .before .before .before .at-most .ensures)
 
 place-2 : (c : tie.In-loop3 Inv-loop μ-loop Inv-loop2 μ-loop2 Inv-loop3 μ-loop3) → c .before .loop3 .i < 16
-place-2 c = omega (arith, c .loop3-test .taken, c .before .before .before .before .before .before .before .before .before .before .before .before .before .before .before .before .before .before .before .before .before .count-in .ensures)
+place-2 c = omega (arith, c .loop3-test .taken, c .before .before .before .before .before .before .before .before .before .before .before .before .before .before .before .before .before .before .before .before .before .at-most .ensures)
 
 loop-holds : tie.Need-loop-holds Inv-loop μ-loop Inv-loop2 μ-loop2 Inv-loop3 μ-loop3
 unfolding anyTo
@@ -89,7 +90,7 @@ loop2-again c =
     let n = min (c .before .before .before .before .before .before .before .before .before .before .before .before .before .before .before .before .before .before .before .before .before .before .before .before .before .args .world .«stop_count») 64 in
     let order : c .before .before .before .before .before .before .before .before .before .before .sorted-stops .result ≡ sortedTable (s .w .stops) n = rw (stops-kept (s .inv .1)) (c .before .before .before .before .before .before .before .before .before .before .sorted-stops .ensures) in
     let trip = c .before .before .trip-of in
-    let so-far : s .i + 1 ≤ c .before .before .before .before .before .before .before .before .before .before .before .before .before .before .before .before .before .before .before .before .before .before .count-in .result = omega (arith, c .before .before .before .before .loop2-test .taken) in
+    let so-far : s .i + 1 ≤ c .before .before .before .before .before .before .before .before .before .before .before .before .before .before .before .before .before .before .before .before .before .before .at-most .result = omega (arith, c .before .before .before .before .loop2-test .taken) in
     ⊎-elim
     (λ u. (
       so-far,
@@ -128,7 +129,7 @@ loop3-again c =
           let t = u .8 in
           let h = turn-on (w .w) (w .i) (carAt (w .w .cars) (w .i)) _ _ (u .2 .ensures) k (t .ensures) in
           same (more (stepOf (w .w) (t .result .car) _ (t .result .opened)) (w .inv .1) (door-of (w .w) (w .i) h) (h .wrote)) (u .13) (u .14) (u .16) (u .15))
-          (λ u. same (passed (w .inv .1) (omega (arith, test, c .before .before .before .before .before .before .before .before .before .before .before .before .before .before .before .before .before .before .before .before .before .before .before .before .count-in .ensures)) (sym (c .before .has-turn .ensures) ∙ u .0 .left)) (u .1) (u .2) (u .4) (u .3))
+          (λ u. same (passed (w .inv .1) (omega (arith, test, c .before .before .before .before .before .before .before .before .before .before .before .before .before .before .before .before .before .before .before .before .before .before .before .before .at-most .ensures)) (sym (c .before .has-turn .ensures) ∙ u .0 .left)) (u .1) (u .2) (u .4) (u .3))
           (c .if9 .came),
     )
 
@@ -143,7 +144,7 @@ returns-4 c =
     let a = c .before .before .before .before .before .before .before .before .before .before .before .before .before .before .before .before .before .before .before .asked-of in
     let s = c .before .before .before .before .before .before .before .before .before .loop2 in
     let t = c .before .before .before .before .before .before .loop3 in
-    let n = c .before .before .before .before .before .before .before .before .before .before .before .before .before .before .before .before .before .before .before .before .before .before .before .before .before .before .count-in in
+    let n = c .before .before .before .before .before .before .before .before .before .before .before .before .before .before .before .before .before .before .before .before .before .before .before .before .before .before .at-most in
     let e : min (w .«car_count») 16 ≡ s .i = omega (arith, n .ensures, c .before .before .before .before .before .before .before .before .loop2-test .left, s .inv .0) in
     let k = rw (← e) at (s .inv .1) in
     let f : t .i ≡ min (s .w .«car_count») 16 = rw (cars-kept k) (omega (arith, n .ensures, c .before .before .before .before .before .loop3-test .left, t .inv .0)) in
@@ -165,10 +166,10 @@ record-spec =
     (λ c κs. tt)
     (λ c κs. tt)
     loop-holds
-    (λ c. search (needs, c .loop-test .taken, c .before .before .before .count-in .ensures))
-    (λ c. search (needs, c .loop-test .taken, c .before .before .before .count-in .ensures))
+    (λ c. search (needs, c .loop-test .taken, c .before .before .before .at-most .ensures))
+    (λ c. search (needs, c .loop-test .taken, c .before .before .before .at-most .ensures))
     (λ c κs. tt)
-    (λ c. search (needs, c .before .before .loop-test .taken, c .before .before .before .before .before .count-in .ensures))
+    (λ c. search (needs, c .before .before .loop-test .taken, c .before .before .before .before .before .at-most .ensures))
     (λ c. search (needs, c .before .before .loop-test .taken))
     loop-again
     (λ c κs. tt)

@@ -26,8 +26,8 @@ loop-again c = (omega arith, c .insert .ensures)
 returns : tie.Need-returns Inv-loop μ-loop
 returns c =
     let b = c .before .before in
-    let n : b .count-in .result ≡ min (b .before .args .stop-count) 64 = b .count-in .ensures in
-    let e : c .before .loop .i ≡ b .count-in .result = omega arith in
+    let n : b .at-most .result ≡ min (b .before .args .stop-count) 64 = b .at-most .ensures in
+    let e : c .before .loop .i ≡ b .at-most .result = omega arith in
     rw (← n, ← e) (c .before .loop .inv .1)
 
 pub sorted-stops-spec : {M : Type 1} → statement M

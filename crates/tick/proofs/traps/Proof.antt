@@ -11,7 +11,8 @@ use Rattle.next_stop.specs.NextStop.{loopNextStopForCar}
 use Rattle.leader.specs.Leader.{leaderTo, loopLeaderPos}
 use Rattle.sorted.specs.Sorted.{positionBefore, stopBefore, inserted, sortedStops}
 use Rattle.log.specs.Words.{word, tickWord}
-use Rattle.steps.specs.Steps.{plus, lineOf, runTo, runCars}
+use Rattle.steps.specs.Steps.{lineOf, runTo, runCars}
+use Rattle.laws.specs.Numbers.{plus}
 use Rattle.arrival.specs.Arrival.{ridersTo, queuedTo, directionFromRemainingWork, popped}
 use Rattle.movement_system.specs.Passing.{countIn, startOf, endOf, between, unlessTarget, without, emitRange, passingWords}
 use Rattle.movement_system.specs.Movement.{moveOf, moved}

@@ -1,7 +1,8 @@
 -- `examples_ticks::text::bits` is safe. Assumes nothing.
 use mathlib.Core.Path.{sym, _∙_}
 use borrow.Author.Needs.{needs}
-use Rattle.float.proofs.Cases.{ne-self, fails}
+use Rattle.float.proofs.Cases.{ne-self}
+use Rattle.laws.proofs.Bools.{fails}
 use Rattle.examples_ticks.proofs.text.bits.Statement.{statement}
 use Rattle.examples_ticks.proofs.text.bits.Tie as tie
 

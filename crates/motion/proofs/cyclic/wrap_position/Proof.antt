@@ -3,7 +3,7 @@ use mathlib.Core.Path.{_≡_}
 use mathlib.Core.Bool.{true, _&&_, cond}
 use lib.Ieee.{le, lt}
 use Rattle.float.specs.Float.{zero}
-use Rattle.float.proofs.Cases.{and-left, and-right}
+use Rattle.laws.proofs.Bools.{and-left, and-right}
 use Rattle.motion.specs.Cyclic.{wrapPosition}
 use Rattle.motion.proofs.Inside.{wrap-inside}
 use Rattle.motion.proofs.cyclic.wrap_position.Statement.{statement}
