@@ -8,7 +8,8 @@ use native.Mathlib.Omega.{arith}
 use lib.Dec.{eqb}
 use borrow.Author.Tests.{eqb-true, eq-eqb}
 use Rattle.world.specs.declared.World.{World}
-use Rattle.log.specs.ReadBack.{kindOf, carOf}
+use Rattle.log_words.specs.ReadBack.{carOf}
+use Rattle.layout.specs.Layout.{kindOf}
 use Rattle.tick.specs.Counters.{isMove, movesIn, sumTo}
 use Rattle.record.specs.Calls.{Empty, Call, next, worldAfter}
 use Rattle.report.specs.Report.{howMany}

@@ -20,13 +20,17 @@ use Rattle.world.specs.declared.refusal.Refusal.{Refusal}
 use Rattle.world.specs.declared.refusal.Refusal.the-variants.{CutShort}
 use Rattle.sound.proofs.Unbroken.{or-left, or-right, Counts, counts-fit}
 use Rattle.steps.specs.Steps.{isManual}
-use Rattle.tape.specs.Tape.{modeOf, Kind, kindIn, kinds, recordOf, decoded, unless, lineRecord}
-use Rattle.fields.specs.Fields.{kindOf, vOf, headOf}
-use Rattle.tape.specs.declared.Decoded.{Decoded}
-use Rattle.tape.specs.declared.Read.{Read}
-use Rattle.tape.specs.declared.Read.the-variants.{Accepted, Refused}
-use Rattle.tape.specs.declared.Record.{Record}
-use Rattle.tape.specs.declared.Record.the-variants as Record
+use Rattle.tape_orders.specs.OrderRecords.{modeOf}
+use Rattle.tape.specs.Tape.{Kind, kindIn, kinds, recordOf, decoded}
+use Rattle.tape_records.specs.Answers.{unless}
+use Rattle.tape_loads.specs.LoadRecords.{lineRecord}
+use Rattle.fields.specs.Fields.{headOf}
+use Rattle.layout.specs.Layout.{kindOf, vOf}
+use Rattle.tape_records.specs.declared.Decoded.{Decoded}
+use Rattle.tape_records.specs.declared.Read.{Read}
+use Rattle.tape_records.specs.declared.Read.the-variants.{Accepted, Refused}
+use Rattle.tape_records.specs.declared.Record.{Record}
+use Rattle.tape_records.specs.declared.Record.the-variants as Record
 use Rattle.tick.specs.Counters.{Low}
 use Rattle.laws.proofs.Choices.{both, cases}
 
@@ -35,7 +39,7 @@ use Rattle.laws.proofs.Choices.{both, cases}
 abbrev pub Says : ℕ → Record → Type 0
 Says h (Record.Line number kind listed count) = eqb (kindOf h) 12 ≡ false
 Says h (Record.Stop number position) = eqb (kindOf h) 12 ≡ false
-Says h (Record.Car number line motion transition opening) = eqb (kindOf h) 12 ≡ false
+Says h (Record.Car number plan) = eqb (kindOf h) 12 ≡ false
 Says h (Record.Rider number rider) = eqb (kindOf h) 12 ≡ false
 Says h (Record.Send car stop reposition) = eqb (kindOf h) 12 ≡ false
 Says h (Record.Mode car mode) = (eqb (kindOf h) 12 ≡ false) × (eqb (kindOf h) 6 && eqb (vOf h) 3 ≡ false → isManual mode ≡ false)

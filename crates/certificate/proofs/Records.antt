@@ -20,18 +20,18 @@ use Rattle.sound.specs.Sound.{broken, unloaded}
 use Rattle.world.specs.Refusal.{Check, check}
 use Rattle.world.specs.declared.World.{World}
 use Rattle.world.specs.declared.Car.{Car}
-use Rattle.world.specs.declared.Motion.{Motion}
+use Rattle.world.specs.declared.CarPlan.{CarPlan}
 use Rattle.world.specs.declared.ElevatorPhase.{ElevatorPhase}
 use Rattle.world.specs.declared.ElevatorPhase.the-variants.{MovingToStop, Repositioning}
 use Rattle.world.specs.declared.refusal.Refusal.{Refusal}
 use Rattle.world.specs.declared.refusal.Refusal.the-variants.{BrokenWorld}
 use Rattle.sound.proofs.Unbroken.{or-left, or-right}
 use Rattle.tape.specs.Tape.{decoded}
-use Rattle.fields.specs.Fields.{kindOf}
-use Rattle.tape.specs.declared.Read.{Read}
-use Rattle.tape.specs.declared.Read.the-variants as Read
-use Rattle.tape.specs.declared.Record.{Record}
-use Rattle.tape.specs.declared.Record.the-variants as Record
+use Rattle.layout.specs.Layout.{kindOf}
+use Rattle.tape_records.specs.declared.Read.{Read}
+use Rattle.tape_records.specs.declared.Read.the-variants as Read
+use Rattle.tape_records.specs.declared.Record.{Record}
+use Rattle.tape_records.specs.declared.Record.the-variants as Record
 use Rattle.loads.specs.Loads as Loads
 use Rattle.changes.specs.Changes as Changes
 use Rattle.loads.specs.Loads.{loadLine, loadStop, loadCar, loadRider}
@@ -204,18 +204,18 @@ module _ (w : World) (c : Call) (j : List ℕ) (h : Keeps j w) (used : ℕ) wher
         unless-cases (Gives w c j) (tickChecks w (c .log)) w (c .log) (ticked w (c .log) used dt) refuses
         (λ q. ticks u t (omega (arith, words-fit w dt, ltb-false (length (c .log)) (roomOf w) (q .1 .1 .0))))
 
-  car-kept : (number line : ℕ) (motion : Motion) (transition opens : ℕ) → eqb (kindOf (headWord c)) 12 ≡ false
-      → Gives w c j (changed (c .log) used (loadCar w number line motion transition opens))
+  car-kept : (number : ℕ) (plan : CarPlan) → eqb (kindOf (headWord c)) 12 ≡ false
+      → Gives w c j (changed (c .log) used (loadCar w number plan))
   unfolding loadCar
-  car-kept number line motion transition opens e =
-      plain (Loads.carChecks w number line) (withCars w (set (w .cars) number (newCar line motion transition opens)) (number + 1)) e
+  car-kept number plan e =
+      plain (Loads.carChecks w number plan) (withCars w (set (w .cars) number (newCar plan)) (number + 1)) e
       (λ q. new (eqb-true number (w .«car_count») (not-false (eqb number (w .«car_count»)) (or-right (leb 16 number) (not (eqb number (w .«car_count»))) (q .1 .0))))
       (leb-false 16 number (or-left (leb 16 number) (not (eqb number (w .«car_count»))) (q .1 .0))))
     where
-      new : number ≡ w .«car_count» → number < 16 → Keeps j (withCars w (set (w .cars) number (newCar line motion transition opens)) (number + 1))
+      new : number ≡ w .«car_count» → number < 16 → Keeps j (withCars w (set (w .cars) number (newCar plan)) (number + 1))
       new q l = rw q (
-        held-new (newCar line motion transition opens) (h .0) (rw (← q) l) (record { sound = idle; tame = refl }),
-        sum-new (newCar line motion transition opens) (h .1) (omega (arith, q, h .0 .full)) refl,
+        held-new (newCar plan) (h .0) (rw (← q) l) (record { sound = idle; tame = refl }),
+        sum-new (newCar plan) (h .1) (omega (arith, q, h .0 .full)) refl,
       )
 
   send-kept : (car stop : ℕ) (reposition : Bool) → eqb (kindOf (headWord c)) 12 ≡ false → Gives w c j (changed (c .log) used (send w car stop reposition))
@@ -249,7 +249,7 @@ module _ (w : World) (c : Call) (j : List ℕ) (h : Keeps j w) (p : putsManual w
   taken-kept (Record.Line number kind listed count) s =
       plain w c j h used (Loads.lineChecks w number (Loads.lineRow kind listed count serves)) _ s (λ q. h)
   taken-kept (Record.Stop number position) s = plain w c j h used (Loads.stopChecks w number) _ s (λ q. h)
-  taken-kept (Record.Car number line motion transition opens) s = car-kept w c j h used number line motion transition opens s
+  taken-kept (Record.Car number plan) s = car-kept w c j h used number plan s
   taken-kept (Record.Rider number rider) s = plain w c j h used (Loads.riderChecks w number rider) _ s (λ q. h)
   taken-kept (Record.Send car stop reposition) s = send-kept w c j h used car stop reposition s
   taken-kept (Record.Mode car mode) s =

@@ -24,7 +24,7 @@ use Rattle.world.specs.declared.ElevatorPhase.{ElevatorPhase}
 use Rattle.world.specs.declared.ElevatorPhase.the-variants.{Idle, MovingToStop, Repositioning, DoorOpening, Loading, DoorClosing, Stopped}
 use Rattle.world.specs.declared.StopOption.{StopOption}
 use Rattle.world.specs.declared.StopOption.the-variants.{NoStop, Stop}
-use Rattle.log.specs.Words.{codeOf, ticksOf}
+use Rattle.log_words.specs.Words.{codeOf, ticksOf}
 use Rattle.laws.specs.Numbers.{bit}
 use Rattle.steps.specs.Steps.{isManual, isInspection, lineOf, lampsOf, bothLit, unlit, updateIndicators, Step}
 use Rattle.world.specs.declared.Lamps.{Lamps}

@@ -17,15 +17,17 @@ use Rattle.world.specs.Refusal.{Check, check}
 use Rattle.world.specs.declared.World.{World}
 use Rattle.world.specs.declared.refusal.Refusal.{Refusal}
 use Rattle.world.specs.declared.refusal.Refusal.the-variants.{BrokenWorld, CutShort, NotNow, LastTick, LogShort}
+use Rattle.tape_records.specs.Answers as TapeAnswers
 use Rattle.tape.specs.Tape as Tape
 use Rattle.tape.specs.Tape.{Kind, kinds, kindIn, decoded}
-use Rattle.fields.specs.Fields.{kindOf, headOf}
+use Rattle.fields.specs.Fields.{headOf}
+use Rattle.layout.specs.Layout.{kindOf}
 use Rattle.tape.specs.Facts.{Facts, InBounds}
-use Rattle.tape.specs.declared.Decoded.{Decoded}
-use Rattle.tape.specs.declared.Read.{Read}
-use Rattle.tape.specs.declared.Read.the-variants as Read
-use Rattle.tape.specs.declared.Record.{Record}
-use Rattle.tape.specs.declared.Record.the-variants.{Line, Stop, Car, Rider, Send, Mode, ManualSpeed, DoorCommand, HallCall, Destination, Enable, Tick, Start}
+use Rattle.tape_records.specs.declared.Decoded.{Decoded}
+use Rattle.tape_records.specs.declared.Read.{Read}
+use Rattle.tape_records.specs.declared.Read.the-variants as Read
+use Rattle.tape_records.specs.declared.Record.{Record}
+use Rattle.tape_records.specs.declared.Record.the-variants.{Line, Stop, Car, Rider, Send, Mode, ManualSpeed, DoorCommand, HallCall, Destination, Enable, Tick, Start}
 use Rattle.tape.proofs.Bounds.{in-bounds}
 use Rattle.changes.specs.Changes as Changes
 use Rattle.loads.specs.Loads.{lineRow, lineChecks, withLine, loadLine, stopChecks, withStop, loadStop, carChecks, loadCar, riderChecks, withRider, loadRider}
@@ -128,8 +130,8 @@ module _ (w : World) (words lent : List ℕ) where
   fine-taken used serves (Line number kind listed count) =
       let row = lineRow kind listed count serves in some-fine (λ g. (g .0, g .1)) (fine-changed used (lineChecks w number row) (withLine w number row))
   fine-taken used serves (Stop number position) = some-fine (λ g. (g .0, g .1)) (fine-changed used (stopChecks w number) (withStop w number position))
-  fine-taken used serves (Car number line motion transition opening) =
-      some-fine (λ g. (g .0, g .1)) (fine-changed used (carChecks w number line) (withCars w (set (w .cars) number (newCar line motion transition opening)) (number + 1)))
+  fine-taken used serves (Car number plan) =
+      some-fine (λ g. (g .0, g .1)) (fine-changed used (carChecks w number plan) (withCars w (set (w .cars) number (newCar plan)) (number + 1)))
   fine-taken used serves (Rider number rider) = some-fine (λ g. (g .0, g .1)) (fine-changed used (riderChecks w number rider) (withRider w number rider))
   fine-taken used serves (Send car stop reposition) =
       some-fine (λ g. (g .0, g .1)) (fine-changed used (sendChecks w car stop) (withCar w car (sent (carAt (w .cars) car) stop reposition)))
@@ -157,14 +159,14 @@ module _ (w : World) (words lent : List ℕ) where
   answered d = readBy w lent (d .serves) (d .read)
 
   tape-check : (b : Bool) (r : Refusal) (cs : List Check) (d : Decoded) →
-      Answers cs (answered d .answer) → Answers (check r b ∷ cs) (answered (cond b (Tape.refused r) d) .answer)
+      Answers cs (answered d .answer) → Answers (check r b ∷ cs) (answered (cond b (TapeAnswers.refused r) d) .answer)
   unfolding Answers
   tape-check true r cs d h = inl (refl, refl)
   tape-check false r cs d h = inr (refl, h)
 
-  tape-unless : (cs : List Check) (d : Decoded) → Answers (cs ++ behind w lent (d .serves) (d .read)) (answered (Tape.unless cs d) .answer)
+  tape-unless : (cs : List Check) (d : Decoded) → Answers (cs ++ behind w lent (d .serves) (d .read)) (answered (TapeAnswers.unless cs d) .answer)
   tape-unless [] d = fine-read (d .serves) (d .read) .answers
-  tape-unless (c ∷ cs) d = tape-check (c .holds) (c .refusal) (cs ++ behind w lent (d .serves) (d .read)) (Tape.unless cs d) (tape-unless cs d)
+  tape-unless (c ∷ cs) d = tape-check (c .holds) (c .refusal) (cs ++ behind w lent (d .serves) (d .read)) (TapeAnswers.unless cs d) (tape-unless cs d)
 
   either : (b : Bool) (cs ds : List Check) (c d : Decoded) →
       Answers cs (answered c .answer) → Answers ds (answered d .answer) → Answers (cond b cs ds) (answered (cond b c d) .answer)
@@ -175,7 +177,7 @@ module _ (w : World) (words lent : List ℕ) where
   unfolding Answers
   in-kinds k [] = inl (refl, refl)
   in-kinds k (t ∷ ts) =
-      either (eqb k (t .number)) (t .deed .checks ++ behind w lent (t .deed .done .serves) (t .deed .done .read)) (checksIn w lent k ts) (Tape.answer (t .deed)) (kindIn k ts)
+      either (eqb k (t .number)) (t .deed .checks ++ behind w lent (t .deed .done .serves) (t .deed .done .read)) (checksIn w lent k ts) (TapeAnswers.answer (t .deed)) (kindIn k ts)
       (tape-unless (t .deed .checks) (t .deed .done))
       (in-kinds k ts)
 

@@ -12,12 +12,13 @@ use Rattle.world.specs.declared.World.{World}
 use Rattle.world.specs.declared.refusal.Refusal.{Refusal}
 use Rattle.world.specs.declared.refusal.Refusal.the-variants.{BrokenWorld, CutShort, UnknownKind}
 use Rattle.tape.specs.Tape.{Kind, kinds}
-use Rattle.fields.specs.Fields.{kindOf, headOf}
-use Rattle.tape.specs.declared.Decoded.{Decoded}
-use Rattle.tape.specs.declared.Read.{Read}
-use Rattle.tape.specs.declared.Read.the-variants as Read
-use Rattle.tape.specs.declared.Record.{Record}
-use Rattle.tape.specs.declared.Record.the-variants.{Line, Stop, Car, Rider, Send, Mode, ManualSpeed, DoorCommand, HallCall, Destination, Enable, Tick, Start}
+use Rattle.fields.specs.Fields.{headOf}
+use Rattle.layout.specs.Layout.{kindOf}
+use Rattle.tape_records.specs.declared.Decoded.{Decoded}
+use Rattle.tape_records.specs.declared.Read.{Read}
+use Rattle.tape_records.specs.declared.Read.the-variants as Read
+use Rattle.tape_records.specs.declared.Record.{Record}
+use Rattle.tape_records.specs.declared.Record.the-variants.{Line, Stop, Car, Rider, Send, Mode, ManualSpeed, DoorCommand, HallCall, Destination, Enable, Tick, Start}
 use Rattle.loads.specs.Loads.{lineRow, lineChecks, stopChecks, carChecks, riderChecks}
 use Rattle.changes.specs.Changes.{startChecks}
 use Rattle.orders.specs.Orders.{sendChecks}
@@ -53,7 +54,7 @@ FirstCondition = (w : World) (words log : List ℕ) → Kept w words log (record
 abbrev pub stateChecks : World → List ℕ → List ℕ → Record → List Check
 stateChecks w log serves (Line number kind listed count) = lineChecks w number (lineRow kind listed count serves)
 stateChecks w log serves (Stop number position) = stopChecks w number
-stateChecks w log serves (Car number line motion transition opening) = carChecks w number line
+stateChecks w log serves (Car number plan) = carChecks w number plan
 stateChecks w log serves (Rider number rider) = riderChecks w number rider
 stateChecks w log serves (Send car stop reposition) = sendChecks w car stop
 stateChecks w log serves (Mode car mode) = orderChecks w car

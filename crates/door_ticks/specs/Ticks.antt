@@ -12,9 +12,9 @@ use Rattle.world.specs.declared.ElevatorPhase.{ElevatorPhase}
 use Rattle.world.specs.declared.ElevatorPhase.the-variants.{Idle, MovingToStop, Repositioning, DoorOpening, Loading, DoorClosing, Stopped}
 use Rattle.world.specs.declared.StopOption.{StopOption}
 use Rattle.world.specs.declared.StopOption.the-variants.{NoStop, Stop}
-use Rattle.log.specs.Words.{wordOf}
+use Rattle.log_words.specs.Words.{wordOf}
 use Rattle.log.specs.Log.{Wrote}
-use Rattle.log.specs.declared.Event.the-variants.{DoorOpened, DoorClosed, ElevatorDeparted}
+use Rattle.log_words.specs.declared.Event.the-variants.{DoorOpened, DoorClosed, ElevatorDeparted}
 use Rattle.steps.specs.Steps.{isInspection, lampsOf, bothLit, unlit, updateIndicators, notOpened}
 use Rattle.world.specs.With.{withDoor}
 use Rattle.steps.specs.declared.JustOpened.{JustOpened}

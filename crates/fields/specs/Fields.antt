@@ -1,26 +1,15 @@
 -- The fields of a record: its head word, the floats of its body, and their ranges. Negative zero is level with zero in `lt` and `le`.
 use mathlib.Core.Bool.{Bool, not, _&&_, _||_}
 use mathlib.Core.List.{List}
-use Prim.Native.Nat.{ℕ, _+_, _*_, _/_, _%_, _^_}
+use Prim.Native.Nat.{ℕ, _+_, _*_, _^_}
 use lib.Dec.{eqb}
 use lib.ListN.{getD}
 use lib.Ieee.{Float, binary64, lt, le, ofBits}
 use Rattle.float.specs.Float as F64
+use Rattle.layout.specs.Layout.{kindOf, nOf, sOf, vOf}
 use Rattle.fields.specs.declared.head.Head.{Head}
 
--- "bits 31-28 kind, 27-24 n, 23-16 s, 15-0 v"
-abbrev pub kindOf : ℕ → ℕ
-kindOf h = h / 2 ^ 28
-
-abbrev pub nOf : ℕ → ℕ
-nOf h = h / 2 ^ 24 % 16
-
-abbrev pub sOf : ℕ → ℕ
-sOf h = h / 2 ^ 16 % 256
-
-abbrev pub vOf : ℕ → ℕ
-vOf h = h % 2 ^ 16
-
+-- "Head: bits 31-28 kind, 27-24 n, 23-16 s, 15-0 v"
 abbrev pub headOf : ℕ → Head
 headOf h = record { kind = kindOf h; n = nOf h; s = sOf h; v = vOf h }
 

@@ -7,9 +7,9 @@ use lib.ListN.{getD}
 use Rattle.world.specs.Calls.{called, cleared}
 use Rattle.world.specs.declared.StopOption.{StopOption}
 use Rattle.world.specs.declared.StopOption.the-variants.{NoStop, Stop}
-use Rattle.log.specs.Words.{wordOf}
+use Rattle.log_words.specs.Words.{wordOf}
 use Rattle.log.specs.Log.{Wrote}
-use Rattle.log.specs.declared.Event.the-variants.{HallCallCleared}
+use Rattle.log_words.specs.declared.Event.the-variants.{HallCallCleared}
 use Rattle.steps.specs.Steps.{notOpened}
 use Rattle.steps.specs.declared.JustOpened.{JustOpened}
 use Rattle.hall_calls.specs.declared.Calls.{Calls}

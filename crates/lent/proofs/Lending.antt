@@ -7,7 +7,8 @@ use Rattle.float.specs.Float.{isFinite}
 use Rattle.world.specs.World.{emptyWorld}
 use Rattle.sound.specs.Sound.{anyTo, countsBroken, broken}
 use Rattle.world.specs.declared.World.{World}
-use Rattle.log.specs.Words.{tickWord}
+use Rattle.log_words.specs.Words.{tickWord}
+use Rattle.layout.specs.Layout.{kindOf, nOf, sOf, vOf}
 use Rattle.steps.specs.Steps.{runTo, runCars}
 use Rattle.laws.specs.Numbers.{plus}
 use Rattle.movement_system.specs.Movement.{moved}
@@ -69,7 +70,7 @@ Threes (a ∷ b ∷ c ∷ []) = Three a b c
 Threes (a ∷ b ∷ c ∷ d ∷ os) = ⊥
 
 computed : (a b c : Outcome) → Threes (outcomes emptyWorld (given (three a b c)))
-unfolding given outcomes outcome next recordOf Tape.recordOf tickOnce decoded floatAt start anyTo countsBroken broken roomOf emptyWorld tickWorld tickWords doorsWorld doorsWords plus runTo runCars tickWord isFinite ofBits le moved doored clearWordsTo
+unfolding given outcomes outcome next recordOf Tape.recordOf tickOnce decoded kindOf nOf sOf vOf floatAt start anyTo countsBroken broken roomOf emptyWorld tickWorld tickWords doorsWorld doorsWords plus runTo runCars tickWord isFinite ofBits le moved doored clearWordsTo
 computed a b c = record { accepted = refl; started = refl; refused = refl; waits = refl; ticked = refl; ticks = refl; word = refl }
 
 shown : Shown

@@ -12,7 +12,7 @@ use Rattle.world.specs.Refusal.{Check, check}
 use Rattle.world.specs.declared.World.{World}
 use Rattle.world.specs.declared.Line.{Line}
 use Rattle.world.specs.declared.LineKind.{LineKind}
-use Rattle.world.specs.declared.Motion.{Motion}
+use Rattle.world.specs.declared.CarPlan.{CarPlan}
 use Rattle.world.specs.declared.Rider.{Rider}
 use Rattle.world.specs.declared.refusal.Refusal.the-variants.{NotNow, NotNext, NotLoaded}
 use Rattle.changes.specs.declared.Changed.{Changed}
@@ -51,16 +51,15 @@ unfoldable pub loadStop : World → ℕ → Float → Changed
 loadStop w number position = unless (stopChecks w number) w (withStop w number position)
 
 -- 3 car
-abbrev pub carChecks : World → ℕ → ℕ → List Check
-carChecks w number line =
+abbrev pub carChecks : World → ℕ → CarPlan → List Check
+carChecks w number plan =
     check NotNow (w .started)
     ∷ check NotNext (notNext 16 (w .«car_count») number)
-    ∷ check NotLoaded (unloaded (w .«line_count») line)
+    ∷ check NotLoaded (unloaded (w .«line_count») (plan .line))
     ∷ []
 
-unfoldable pub loadCar : World → ℕ → ℕ → Motion → ℕ → ℕ → Changed
-loadCar w number line motion transition opening =
-    unless (carChecks w number line) w (withCars w (set (w .cars) number (newCar line motion transition opening)) (number + 1))
+unfoldable pub loadCar : World → ℕ → CarPlan → Changed
+loadCar w number plan = unless (carChecks w number plan) w (withCars w (set (w .cars) number (newCar plan)) (number + 1))
 
 -- the count of riders once this number is loaded: one more where it is new
 abbrev pub countWith : ℕ → ℕ → ℕ

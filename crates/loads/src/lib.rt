@@ -8,9 +8,9 @@ use changes::refused;
 use sound::line_broken;
 use sound::rider_broken;
 use sound::unloaded;
+use world::CarPlan;
 use world::Line;
 use world::LineKind;
-use world::Motion;
 use world::Rider;
 use world::World;
 use world::empty::new_car;
@@ -65,15 +65,8 @@ pub fn load_rider(world: World, number: u8, rider: Rider) -> Changed
 }
 
 // Kind 3.
-pub fn load_car(
-    world: World,
-    number: u8,
-    line: u8,
-    motion: Motion,
-    transition_ticks: u32,
-    open_ticks: u32,
-) -> Changed
-    ensures { λ r. ⌜ r ≡ Loads.loadCar world number line motion «transition_ticks» «open_ticks» ⌝ }
+pub fn load_car(world: World, number: u8, plan: CarPlan) -> Changed
+    ensures { λ r. ⌜ r ≡ Loads.loadCar world number plan ⌝ }
 {
     if world.started {
         return refused(world, Refusal::NotNow);
@@ -85,11 +78,11 @@ pub fn load_car(
     if at != world.car_count {
         return refused(world, Refusal::NotNext);
     }
-    if unloaded(world.line_count, line) {
+    if unloaded(world.line_count, plan.line) {
         return refused(world, Refusal::NotLoaded);
     }
     let mut next = world;
-    let car = new_car(line, motion, transition_ticks, open_ticks);
+    let car = new_car(plan);
     next.cars[at] = car;
     next.car_count = at + 1;
     accepted(next)

@@ -11,8 +11,8 @@ use Rattle.world.specs.declared.ElevatorPhase.the-variants.{Idle, DoorOpening}
 use Rattle.world.specs.declared.StopOption.{StopOption}
 use Rattle.world.specs.declared.StopOption.the-variants.{NoStop, Stop}
 use Rattle.world.specs.declared.TickOption.the-variants.{AtTick}
-use Rattle.log.specs.Words.{wordOf}
-use Rattle.log.specs.declared.Event.the-variants.{ElevatorArrived, ElevatorRepositioned, ElevatorIdle}
+use Rattle.log_words.specs.Words.{wordOf}
+use Rattle.log_words.specs.declared.Event.the-variants.{ElevatorArrived, ElevatorRepositioned, ElevatorIdle}
 use Rattle.steps.specs.Steps.{bothLit, updateIndicators}
 use Rattle.world.specs.With.{withArrived}
 use Rattle.laws.specs.Numbers.{plus}

@@ -19,7 +19,7 @@ use Rattle.world.specs.declared.World.{World}
 use Rattle.world.specs.declared.Car.{Car}
 use Rattle.world.specs.declared.Line.{Line}
 use Rattle.world.specs.declared.LineKind.{LineKind}
-use Rattle.world.specs.declared.Motion.{Motion}
+use Rattle.world.specs.declared.CarPlan.{CarPlan}
 use Rattle.world.specs.declared.Rider.{Rider}
 use Rattle.world.specs.declared.ElevatorPhase.{ElevatorPhase}
 use Rattle.world.specs.declared.ElevatorPhase.the-variants.{MovingToStop, Repositioning}
@@ -31,10 +31,10 @@ use Rattle.sound.proofs.Unbroken.{or-left, or-right}
 use Rattle.tape.specs.Tape.{decoded}
 use Rattle.tape.specs.Facts.{InBounds, Facts}
 use Rattle.tape.proofs.Bounds.{in-bounds}
-use Rattle.tape.specs.declared.Read.{Read}
-use Rattle.tape.specs.declared.Read.the-variants as Read
-use Rattle.tape.specs.declared.Record.{Record}
-use Rattle.tape.specs.declared.Record.the-variants as Record
+use Rattle.tape_records.specs.declared.Read.{Read}
+use Rattle.tape_records.specs.declared.Read.the-variants as Read
+use Rattle.tape_records.specs.declared.Record.{Record}
+use Rattle.tape_records.specs.declared.Record.the-variants as Record
 use Rattle.changes.specs.Changes as Changes
 use Rattle.loads.specs.Loads.{countWith, lineRow, lineChecks, stopChecks, carChecks, riderChecks, loadLine, loadStop, loadCar, loadRider}
 use Rattle.changes.specs.Changes.{notNext, noSuchCar, startChecks, start}
@@ -163,10 +163,10 @@ module _ (w : World) (h : Sound w) (log : List ℕ) (used : ℕ) where
             };
       })
 
-  car-keeps : (number line : ℕ) (motion : Motion) (transition opening : ℕ) → Keeps (loadCar w number line motion transition opening)
+  car-keeps : (number : ℕ) (plan : CarPlan) → Keeps (loadCar w number plan)
   unfolding loadCar
-  car-keeps number line motion transition opening =
-      unless-keeps (carChecks w number line) _ refl
+  car-keeps number plan =
+      unless-keeps (carChecks w number plan) _ refl
       (λ q. let n : (number < 16) × (number ≡ w .«car_count») = is-next 16 (w .«car_count») number (q .1 .0) in
       let fits : (j : ℕ) → j < number + 1 → (j ≡ number → ⊥) → j < w .«car_count» = λ j m e. omega (arith, e, n .1) in
       record {
@@ -176,16 +176,16 @@ module _ (w : World) (h : Sound w) (log : List ℕ) (used : ℕ) where
               plan = h .shape .plan;
               cars =
                   cars-set new (w .cars) number (w .«car_count») (number + 1) fits (w .«line_count») (w .«stop_count») (omega (arith, n .0))
-                  (new-in (leb-false (w .«line_count») line (q .1 .1 .0))) (h .shape .cars);
+                  (new-in (leb-false (w .«line_count») (plan .line) (q .1 .1 .0))) (h .shape .cars);
               riders = riders-stay (w .«stop_count») (w .«stop_count») (w .«car_count») (number + 1) (omega arith) (omega (arith, n .1)) (h .shape .riders);
               calls = h .shape .calls;
             };
       })
     where
       new : Car
-      new = newCar line motion transition opening
+      new = newCar plan
 
-      new-in : line < w .«line_count» → CarIn (w .«line_count») (w .«stop_count») new
+      new-in : plan .line < w .«line_count» → CarIn (w .«line_count») (w .«stop_count») new
       new-in l =
           record { commands = omega arith; line = l; phase = refl; target = refl; queue = record { few = omega arith; loaded = λ k m. absurd (omega arith) } }
 
@@ -320,7 +320,7 @@ module _ (w : World) (h : Sound w) (log : List ℕ) (used : ℕ) where
   taken-good : (serves : List ℕ) (read : Record) → Good (taken w log used serves read)
   taken-good serves (Record.Line number kind listed count) = line-keeps number kind listed count serves
   taken-good serves (Record.Stop number position) = stop-keeps number position
-  taken-good serves (Record.Car number line motion transition opening) = car-keeps number line motion transition opening
+  taken-good serves (Record.Car number plan) = car-keeps number plan
   taken-good serves (Record.Rider number rider) = rider-keeps number rider
   taken-good serves (Record.Send car stop reposition) = send-keeps car stop reposition
   taken-good serves (Record.Mode car mode) = mode-keeps car mode

@@ -20,7 +20,7 @@ use Rattle.conditions.proofs.Answering.{first-condition}
 use Rattle.laws.specs.Numbers.{bit}
 use Rattle.report.specs.declared.Counts.{Counts}
 use Rattle.study_text.specs.Text.{wordsOf}
-use Rattle.study_text.proofs.Putting.{take-min}
+use Rattle.study_text.proofs.Keeping.{take-min}
 use Rattle.play.specs.declared.Told.{Told}
 use Rattle.play.specs.Play.{told, countsAfter, ending, Tells}
 use Rattle.pieces.specs.Pieces.{Playing, after, nextRecord, ready, goes, playTo, ends, closed, close, advanced, playing, Gives}

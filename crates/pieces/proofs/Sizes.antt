@@ -18,8 +18,9 @@ use Rattle.report.specs.declared.Totals.{Totals}
 use Rattle.report.specs.declared.Reported.{Reported}
 use Rattle.report.specs.declared.Reported.the-variants as Reported
 use Rattle.report.specs.Report.{countedReport}
-use Rattle.study_text.specs.Text.{wordsOf, wordLine, wordLines, decimalTo, decimal, field, text, newline, reportLine, refusedLine}
-use Rattle.study_text.proofs.Putting.{word-line}
+use Rattle.study_text.specs.Text.{wordsOf, field, reportLine, refusedLine}
+use Rattle.study_numbers.specs.NumberText.{wordLine, wordLines, decimalTo, decimal, text, newline}
+use Rattle.study_numbers.proofs.Putting.{word-line}
 use Rattle.play.specs.Play.{told, lastLine, ending}
 
 -- ---- words

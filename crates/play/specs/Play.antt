@@ -14,7 +14,8 @@ use Rattle.report.specs.Report.{countMore, countedReport}
 use Rattle.report.specs.declared.Counts.{Counts}
 use Rattle.report.specs.declared.Reported.{Reported}
 use Rattle.report.specs.declared.Reported.the-variants as Reported
-use Rattle.study_text.specs.Text.{wordLines, reportLine, refusedLine}
+use Rattle.study_numbers.specs.NumberText.{wordLines}
+use Rattle.study_text.specs.Text.{reportLine, refusedLine}
 use Rattle.play.specs.declared.Told.{Told}
 
 -- ---- a record

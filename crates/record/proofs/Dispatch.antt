@@ -5,14 +5,14 @@ use mathlib.Core.List.{List, [], _∷_}
 use Prim.Native.Nat.{ℕ}
 use denote.Enum.Declared.{tagOf}
 use types.Run.{OneOf, miss}
-use Rattle.tape.proofs.Record.{the-type}
+use Rattle.tape_records.proofs.Record.{the-type}
 use lib.Dec.{eqb}
 use Rattle.tape.specs.Tape.{beginsTick, decoded}
 use Rattle.tape.specs.Facts.{Facts, kindNumber}
 use Rattle.tape.proofs.Bounds.{in-bounds}
-use Rattle.tape.specs.declared.Read.the-variants as Read
-use Rattle.tape.specs.declared.Record.{Record}
-use Rattle.tape.specs.declared.Record.the-variants.{Line, Stop, Car, Rider, Send, Mode, ManualSpeed, DoorCommand, HallCall, Destination, Enable, Tick, Start}
+use Rattle.tape_records.specs.declared.Read.the-variants as Read
+use Rattle.tape_records.specs.declared.Record.{Record}
+use Rattle.tape_records.specs.declared.Record.the-variants.{Line, Stop, Car, Rider, Send, Mode, ManualSpeed, DoorCommand, HallCall, Destination, Enable, Tick, Start}
 use Rattle.record.specs.Parts.{isTick, isOrder}
 
 no : false ≡ true → ⊥
@@ -25,7 +25,7 @@ rest = 0 ∷ 1 ∷ 2 ∷ 3 ∷ 11 ∷ 12 ∷ []
 pub no-order : (read : Record) → OneOf rest (tagOf the-type read) → isOrder read ≡ true → ⊥
 no-order (Line number kind listed count) k e = no e
 no-order (Stop number position) k e = no e
-no-order (Car number line motion transition opening) k e = no e
+no-order (Car number plan) k e = no e
 no-order (Rider number rider) k e = no e
 no-order (Send car stop reposition) k e = miss rest 4 tt k
 no-order (Mode car mode) k e = miss rest 5 tt k
@@ -44,7 +44,7 @@ orders = 4 ∷ 5 ∷ 6 ∷ 7 ∷ 8 ∷ 9 ∷ 10 ∷ 11 ∷ []
 pub an-order : (read : Record) → OneOf orders (tagOf the-type read) → isTick read ≡ false → isOrder read ≡ true
 an-order (Line number kind listed count) k e = absurd (miss orders 0 tt k)
 an-order (Stop number position) k e = absurd (miss orders 1 tt k)
-an-order (Car number line motion transition opening) k e = absurd (miss orders 2 tt k)
+an-order (Car number plan) k e = absurd (miss orders 2 tt k)
 an-order (Rider number rider) k e = absurd (miss orders 3 tt k)
 an-order (Send car stop reposition) k e = refl
 an-order (Mode car mode) k e = refl
@@ -63,7 +63,7 @@ others = 0 ∷ 1 ∷ 2 ∷ 3 ∷ 4 ∷ 5 ∷ 6 ∷ 7 ∷ 8 ∷ 9 ∷ 10 ∷ 12 �
 pub no-tick : (read : Record) → OneOf others (tagOf the-type read) → isTick read ≡ false
 no-tick (Line number kind listed count) k = refl
 no-tick (Stop number position) k = refl
-no-tick (Car number line motion transition opening) k = refl
+no-tick (Car number plan) k = refl
 no-tick (Rider number rider) k = refl
 no-tick (Send car stop reposition) k = refl
 no-tick (Mode car mode) k = refl
@@ -79,7 +79,7 @@ no-tick Start k = refl
 kind-tick : (read : Record) → eqb (kindNumber read) 12 ≡ isTick read
 kind-tick (Line number kind listed count) = refl
 kind-tick (Stop number position) = refl
-kind-tick (Car number line motion transition opening) = refl
+kind-tick (Car number plan) = refl
 kind-tick (Rider number rider) = refl
 kind-tick (Send car stop reposition) = refl
 kind-tick (Mode car mode) = refl

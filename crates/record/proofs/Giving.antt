@@ -14,8 +14,8 @@ use Rattle.sound.proofs.Unbroken.{counts-fit}
 use Rattle.world.specs.declared.refusal.Refusal.{Refusal}
 use Rattle.world.specs.declared.refusal.Refusal.the-variants.{BrokenWorld, NotNow, LastTick, LogShort}
 use Rattle.tape.specs.Tape.{decoded}
-use Rattle.tape.specs.declared.Read.the-variants as Read
-use Rattle.tape.specs.declared.Record.{Record}
+use Rattle.tape_records.specs.declared.Read.the-variants as Read
+use Rattle.tape_records.specs.declared.Record.{Record}
 use Rattle.changes.specs.declared.Changed.{Changed}
 use Rattle.log.specs.Log.{Wrote}
 use Rattle.tick.specs.Tick.{tickWorld, tickWords}

@@ -6,7 +6,7 @@ use Prim.Native.Nat.{ℕ}
 use lib.Dec.{eqb}
 use lib.ListN.{length, getD}
 use Rattle.world.specs.declared.World.{World}
-use Rattle.fields.specs.Fields.{kindOf}
+use Rattle.layout.specs.Layout.{kindOf}
 use Rattle.record.specs.Record.{Outcome, recordOf, isAccepted}
 
 -- "An empty world has nothing loaded or queued, no hall call, no start, no tick made and every counter 0." What lies in its tables, past their counts, may be anything.

@@ -7,8 +7,8 @@ use lib.ListN.{length}
 use Rattle.world.specs.declared.World.{World}
 use Rattle.changes.specs.declared.Changed.{Changed}
 use Rattle.tape.specs.Tape.{decoded}
-use Rattle.tape.specs.declared.Record.{Record}
-use Rattle.tape.specs.declared.Record.the-variants.{Line, Stop, Car, Rider, Send, Mode, ManualSpeed, DoorCommand, HallCall, Destination, Enable, Tick, Start}
+use Rattle.tape_records.specs.declared.Record.{Record}
+use Rattle.tape_records.specs.declared.Record.the-variants.{Line, Stop, Car, Rider, Send, Mode, ManualSpeed, DoorCommand, HallCall, Destination, Enable, Tick, Start}
 use Rattle.tick.specs.Room.{roomOf}
 use Rattle.record.specs.Record.{Outcome, changed, refused, ticked, taken, readBy}
 use Rattle.record.specs.declared.Asked.{Asked}
@@ -17,7 +17,7 @@ use Rattle.record.specs.declared.Asked.{Asked}
 abbrev pub isTick : Record → Bool
 isTick (Line number kind listed count) = false
 isTick (Stop number position) = false
-isTick (Car number line motion transition opening) = false
+isTick (Car number plan) = false
 isTick (Rider number rider) = false
 isTick (Send car stop reposition) = false
 isTick (Mode car mode) = false
@@ -33,7 +33,7 @@ isTick Start = false
 abbrev pub isOrder : Record → Bool
 isOrder (Line number kind listed count) = false
 isOrder (Stop number position) = false
-isOrder (Car number line motion transition opening) = false
+isOrder (Car number plan) = false
 isOrder (Rider number rider) = false
 isOrder (Send car stop reposition) = true
 isOrder (Mode car mode) = true

@@ -13,10 +13,10 @@ use Rattle.world.specs.declared.World.{World}
 use Rattle.world.specs.declared.refusal.Refusal.{Refusal}
 use Rattle.world.specs.declared.refusal.Refusal.the-variants.{BrokenWorld, NotNow, LastTick, LogShort}
 use Rattle.tape.specs.Tape.{decoded}
-use Rattle.tape.specs.declared.Read.{Read}
-use Rattle.tape.specs.declared.Read.the-variants as Read
-use Rattle.tape.specs.declared.Record.{Record}
-use Rattle.tape.specs.declared.Record.the-variants.{Line, Stop, Car, Rider, Send, Mode, ManualSpeed, DoorCommand, HallCall, Destination, Enable, Tick, Start}
+use Rattle.tape_records.specs.declared.Read.{Read}
+use Rattle.tape_records.specs.declared.Read.the-variants as Read
+use Rattle.tape_records.specs.declared.Record.{Record}
+use Rattle.tape_records.specs.declared.Record.the-variants.{Line, Stop, Car, Rider, Send, Mode, ManualSpeed, DoorCommand, HallCall, Destination, Enable, Tick, Start}
 use Rattle.loads.specs.Loads.{loadLine, loadStop, loadCar, loadRider}
 use Rattle.changes.specs.Changes.{start}
 use Rattle.changes.specs.declared.Changed.{Changed}
@@ -103,7 +103,7 @@ tickOnce w log used dt = unless (tickChecks w log) w log (ticked w log used dt)
 abbrev pub taken : World → List ℕ → ℕ → List ℕ → Record → Outcome
 taken w log used serves (Line number kind listed count) = changed log used (loadLine w number kind listed count serves)
 taken w log used serves (Stop number position) = changed log used (loadStop w number position)
-taken w log used serves (Car number line motion transition opening) = changed log used (loadCar w number line motion transition opening)
+taken w log used serves (Car number plan) = changed log used (loadCar w number plan)
 taken w log used serves (Rider number rider) = changed log used (loadRider w number rider)
 taken w log used serves (Send car stop reposition) = changed log used (send w car stop reposition)
 taken w log used serves (Mode car mode) = changed log used (setMode w car mode)

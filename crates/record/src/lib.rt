@@ -18,8 +18,8 @@ use landing::landing;
 use landing::leader_of;
 use laws::at_most;
 use leader::LeaderOption;
-use log::Event;
 use log::emit;
+use log_words::Event;
 use movement_system::turn::tell;
 use moves::come;
 use moves::distance_by;
@@ -30,10 +30,10 @@ use std::num::wrapping_add_u64;
 use steps::lamps_of;
 use steps::line_at;
 use steps::not_opened;
-use tape::Read;
-use tape::Record;
 use tape::decode;
 use tape::is_tick;
+use tape_records::Read;
+use tape_records::Record;
 use trips::is_loop;
 use trips::is_trip;
 use trips::trip_of;
@@ -85,20 +85,7 @@ fn change(world: World, read: Record, serves: [u8; 64]) -> Changed
             count,
         } => loads::load_line(world, number, kind, listed, count, serves),
         Record::Stop { number, position } => loads::load_stop(world, number, position),
-        Record::Car {
-            number,
-            line,
-            motion,
-            door_transition_ticks,
-            door_open_ticks,
-        } => loads::load_car(
-            world,
-            number,
-            line,
-            motion,
-            door_transition_ticks,
-            door_open_ticks,
-        ),
+        Record::Car { number, plan } => loads::load_car(world, number, plan),
         Record::Rider { number, rider } => loads::load_rider(world, number, rider),
         Record::Start => changes::start(world),
         _ => order(world, read),

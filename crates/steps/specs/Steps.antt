@@ -19,8 +19,8 @@ use Rattle.world.specs.declared.ServiceMode.the-variants.{Normal, Independent, 
 use Rattle.world.specs.declared.StopOption.{StopOption}
 use Rattle.world.specs.declared.StopOption.the-variants.{NoStop, Stop}
 use Rattle.world.specs.declared.TickOption.{TickOption}
-use Rattle.log.specs.Words.{wordOf}
-use Rattle.log.specs.declared.Event.the-variants.{DirectionIndicatorChanged}
+use Rattle.log_words.specs.Words.{wordOf}
+use Rattle.log_words.specs.declared.Event.the-variants.{DirectionIndicatorChanged}
 use Rattle.world.specs.declared.Lamps.{Lamps}
 use Rattle.steps.specs.declared.JustOpened.{JustOpened}
 use Rattle.laws.specs.Numbers.{plus}

@@ -12,9 +12,13 @@ use Rattle.world.specs.declared.refusal.Refusal.{Refusal}
 use Rattle.world.specs.declared.refusal.Refusal.the-variants.{CutShort, UnknownKind}
 use Rattle.laws.proofs.Bools.{and-left, and-right}
 use Rattle.fields.specs.declared.head.Head.{Head}
-use Rattle.tape.specs.declared.Decoded.{Decoded}
-use Rattle.tape.specs.Tape.{Deed, Kind, kindIn, kinds, refused, unless, answer, servesCount, lineRecord, stopRecord, carRecord, riderRecord, sendRecord, modeRecord, manualSpeedRecord, doorCommandRecord, hallCallRecord, destinationRecord, enableRecord, tickRecord, startRecord, recordOf, decoded}
-use Rattle.fields.specs.Fields.{kindOf, headOf}
+use Rattle.tape_records.specs.declared.Decoded.{Decoded}
+use Rattle.tape_records.specs.Answers.{Deed, refused, unless, answer}
+use Rattle.tape.specs.Tape.{Kind, kindIn, kinds, recordOf, decoded}
+use Rattle.tape_loads.specs.LoadRecords.{servesCount, lineRecord, stopRecord, carRecord, riderRecord}
+use Rattle.tape_orders.specs.OrderRecords.{sendRecord, modeRecord, manualSpeedRecord, doorCommandRecord, hallCallRecord, destinationRecord, enableRecord, tickRecord, startRecord}
+use Rattle.fields.specs.Fields.{headOf}
+use Rattle.layout.specs.Layout.{kindOf}
 use Rattle.tape.specs.Facts.{InBounds, Facts}
 
 -- every refusal of the checks is 1 to 4

@@ -1,2 +1,1 @@
-pub mod Serves
 pub mod Bounds

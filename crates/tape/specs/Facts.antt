@@ -4,18 +4,18 @@ use mathlib.Core.List.{List}
 use Prim.Native.Nat.{ℕ, _<_, _≤_}
 use lib.ListN.{length, getD}
 use Rattle.world.specs.Refusal.{refusalNumber}
-use Rattle.tape.specs.declared.Read.{Read}
-use Rattle.tape.specs.declared.Read.the-variants.{Refused, Accepted}
-use Rattle.tape.specs.declared.Record.{Record}
-use Rattle.tape.specs.declared.Record.the-variants.{Line, Stop, Car, Rider, Send, Mode, ManualSpeed, DoorCommand, HallCall, Destination, Enable, Tick, Start}
+use Rattle.tape_records.specs.declared.Read.{Read}
+use Rattle.tape_records.specs.declared.Read.the-variants.{Refused, Accepted}
+use Rattle.tape_records.specs.declared.Record.{Record}
+use Rattle.tape_records.specs.declared.Record.the-variants.{Line, Stop, Car, Rider, Send, Mode, ManualSpeed, DoorCommand, HallCall, Destination, Enable, Tick, Start}
 use Rattle.tape.specs.Tape.{decoded}
-use Rattle.fields.specs.Fields.{kindOf}
+use Rattle.layout.specs.Layout.{kindOf}
 
 -- the kind of a record
 abbrev pub kindNumber : Record → ℕ
 kindNumber (Line number kind listed count) = 1
 kindNumber (Stop number position) = 2
-kindNumber (Car number line motion transition opening) = 3
+kindNumber (Car number plan) = 3
 kindNumber (Rider number rider) = 4
 kindNumber (Send car stop reposition) = 5
 kindNumber (Mode car mode) = 6

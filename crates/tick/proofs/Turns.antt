@@ -20,11 +20,11 @@ use Rattle.world.specs.declared.LineKind.{LineKind}
 use Rattle.world.specs.declared.ElevatorPhase.{ElevatorPhase}
 use Rattle.world.specs.declared.StopOption.{StopOption}
 use Rattle.world.specs.declared.StopOption.the-variants.{NoStop, Stop}
-use Rattle.log.specs.Words.{word, wordOf, codeOf, ticksOf}
+use Rattle.log_words.specs.Words.{word, wordOf, codeOf, ticksOf}
 use Rattle.laws.specs.Numbers.{bit}
-use Rattle.log.specs.ReadBack.{kindOf}
-use Rattle.log.specs.declared.Event.the-variants.{ElevatorIdle}
-use Rattle.log.proofs.Reading.{kind-word}
+use Rattle.layout.specs.Layout.{kindOf}
+use Rattle.log_words.specs.declared.Event.the-variants.{ElevatorIdle}
+use Rattle.log_words.proofs.Reading.{kind-word}
 use Rattle.steps.specs.Steps.{lineOf, lampsOf, bothLit, unlit, updateIndicators, Step, notOpened}
 use Rattle.laws.specs.Numbers.{plus}
 use Rattle.world.specs.declared.Lamps.{Lamps}

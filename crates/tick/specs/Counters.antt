@@ -7,7 +7,7 @@ use lib.Dec.{eqb}
 use lib.Ieee.{Float}
 use Rattle.world.specs.World.{carAt}
 use Rattle.world.specs.declared.World.{World}
-use Rattle.log.specs.ReadBack.{kindOf}
+use Rattle.layout.specs.Layout.{kindOf}
 use Rattle.steps.specs.Steps.{Step, runTo}
 use Rattle.laws.specs.Numbers.{plus}
 use Rattle.movement_system.specs.Movement.{moveOf}

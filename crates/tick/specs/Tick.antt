@@ -3,8 +3,8 @@ use mathlib.Core.List.{List, _∷_, _++_}
 use Prim.Native.Nat.{ℕ}
 use lib.Ieee.{Float}
 use Rattle.world.specs.declared.World.{World}
-use Rattle.log.specs.Words.{wordOf}
-use Rattle.log.specs.declared.Event.the-variants.{TickMade}
+use Rattle.log_words.specs.Words.{wordOf}
+use Rattle.log_words.specs.declared.Event.the-variants.{TickMade}
 use Rattle.laws.specs.Numbers.{plus}
 use Rattle.movement_system.specs.Movement.{moved}
 use Rattle.doors_system.specs.Doors.{doorsWorld, doorsWords}

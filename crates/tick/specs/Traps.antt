@@ -84,7 +84,7 @@ sent c stop =
 
 -- both door times 1
 abbrev car : Float → Float → ℕ → Car
-car position velocity stop = sent (newCar 0 (motion position velocity) 1 1) stop
+car position velocity stop = sent (newCar (record { line = 0; motion = motion position velocity; «door_transition_ticks» = 1; «door_open_ticks» = 1 })) stop
 
 -- the worlds after n ticks of 0.5, and the words of these ticks
 unfoldable pub worldAfter : ℕ → World → World

@@ -8,7 +8,7 @@ use lib.Dec.{eqb}
 use lib.ListN.{length, take, drop, replicate}
 use Rattle.world.specs.World.{emptyWorld}
 use Rattle.world.specs.declared.World.{World}
-use Rattle.fields.specs.Fields.{kindOf}
+use Rattle.layout.specs.Layout.{kindOf}
 use Rattle.record.specs.Record.{Outcome, recordOf, isAccepted, usedOf, writtenOf}
 use Rattle.conditions.specs.Conditions.{Kept}
 use Rattle.record.specs.Calls.{Call, outcome, next, headWord, worldAfter}
@@ -19,7 +19,8 @@ use Rattle.report.specs.Report.{noCounts, countsOf, howMany, anyUnknown, countM
 use Rattle.laws.specs.Numbers.{plus}
 use Rattle.report.specs.declared.Counts.{Counts}
 use Rattle.report.proofs.Counted as Counted
-use Rattle.study_text.specs.Text.{wordsOf, wordLine, wordLines}
+use Rattle.study_text.specs.Text.{wordsOf}
+use Rattle.study_numbers.specs.NumberText.{wordLine, wordLines}
 use Rattle.pieces.proofs.Sizes.{words-few}
 use Rattle.play.specs.Play as Play
 use Rattle.play.specs.Play.{countsAfter, ending, lastLine}

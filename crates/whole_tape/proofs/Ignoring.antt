@@ -9,11 +9,14 @@ use lib.ListN.{length, getD, length-append, List·getD-append}
 use borrow.Author.Tests.{le-ltb, ne-eqb, ltb-false, eqb-false}
 use Rattle.world.specs.declared.refusal.Refusal.the-variants.{CutShort}
 use Rattle.fields.specs.declared.head.Head.{Head}
-use Rattle.tape.specs.declared.Decoded.{Decoded}
-use Rattle.tape.specs.declared.Read.the-variants.{Refused}
-use Rattle.tape.specs.Tape.{Deed, Kind, refused, kindIn, kinds, answer, servesCount, servesOutside, servesTo, lineFieldsOutside, lineFloatsOutside, lineKindOf, lineRecord, stopRecord, carRecord, riderRecord, manualSpeedRecord, tickRecord, recordOf, decoded}
+use Rattle.tape_records.specs.declared.Decoded.{Decoded}
+use Rattle.tape_records.specs.declared.Read.the-variants.{Refused}
+use Rattle.tape_records.specs.Answers.{Deed, refused, answer}
+use Rattle.tape.specs.Tape.{Kind, kindIn, kinds, recordOf, decoded}
+use Rattle.tape_loads.specs.LoadRecords.{servesCount, servesOutside, servesTo, lineFieldsOutside, lineFloatsOutside, lineKindOf, lineRecord, stopRecord, carRecord, riderRecord}
+use Rattle.tape_orders.specs.OrderRecords.{manualSpeedRecord, tickRecord}
 use Rattle.fields.specs.Fields.{headOf, floatAt, rawZeroAt}
-use Rattle.tape.proofs.Serves.{count-small}
+use Rattle.tape_loads.proofs.Serves.{count-small}
 use Rattle.whole_tape.specs.WholeTape.{Ignored, Longest}
 
 -- two tables that answer alike, where the second one's answer is one of which `g` holds

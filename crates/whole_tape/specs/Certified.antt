@@ -13,7 +13,8 @@ use Rattle.record.specs.declared.Answer.{Answer}
 use Rattle.record.specs.declared.Answer.the-variants.{Accepted, Refused}
 use Rattle.certificate.specs.Certificate.{joined}
 use Rattle.report.specs.Report.{noCounts, countMore, reportOf}
-use Rattle.study_text.specs.Text.{wordsOf, wordLines}
+use Rattle.study_text.specs.Text.{wordsOf}
+use Rattle.study_numbers.specs.NumberText.{wordLines}
 use Rattle.play.specs.Play.{ending, lastLine}
 use Rattle.whole_tape.specs.Study.{studyText}
 

@@ -2,7 +2,7 @@
 use mathlib.Core.Path.{_≡_}
 use mathlib.Core.List.{List, [], _∷_, _++_}
 use Prim.Native.Nat.{ℕ, _/_, _%_, _^_}
-use Rattle.study_text.specs.Text.{text, newline}
+use Rattle.study_numbers.specs.NumberText.{text, newline}
 use lib.ListN.{length}
 use Rattle.world.specs.World.{emptyWorld}
 use Rattle.whole_tape.specs.Study.{studyText}

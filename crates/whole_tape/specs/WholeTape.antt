@@ -6,7 +6,7 @@ use mathlib.Core.List.{List, [], _∷_, _++_}
 use Prim.Native.Nat.{ℕ, suc, _<_, _≤_}
 use lib.ListN.{length, replicate}
 use Rattle.world.specs.declared.refusal.Refusal.the-variants.{CutShort}
-use Rattle.tape.specs.declared.Read.the-variants.{Refused}
+use Rattle.tape_records.specs.declared.Read.the-variants.{Refused}
 use Rattle.tape.specs.Tape.{decoded}
 use Rattle.study_text.specs.Text.{wordsOf}
 use Rattle.pieces.specs.Pieces.{Playing, ready, advanced, playing, fresh}

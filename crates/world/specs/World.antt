@@ -9,6 +9,7 @@ use Rattle.door.specs.declared.DoorState.the-variants as Door
 use Rattle.door.specs.declared.DoorCommand.the-variants as Command
 use Rattle.world.specs.declared.World.{World}
 use Rattle.world.specs.declared.Car.{Car}
+use Rattle.world.specs.declared.CarPlan.{CarPlan}
 use Rattle.world.specs.declared.Line.{Line}
 use Rattle.world.specs.declared.Rider.{Rider}
 use Rattle.world.specs.declared.Motion.{Motion}
@@ -84,16 +85,16 @@ riderAt riders r = getD riders r noRider
 -- ---- a new car, and the empty world
 
 -- a car as it is loaded: "it begins Idle, closed, Normal, enabled, counters 0, up and down lit, forward unlit, no target, manual speed or queued item"
-abbrev pub newCar : ℕ → Motion → ℕ → ℕ → Car
-newCar line motion transition opening = record {
-  line = line;
+abbrev pub newCar : CarPlan → Car
+newCar plan = record {
+  line = plan .line;
   phase = Idle;
   door = Door.Closed;
   «service_mode» = Normal;
   enabled = true;
-  motion = motion;
-  «door_transition_ticks» = transition;
-  «door_open_ticks» = opening;
+  motion = plan .motion;
+  «door_transition_ticks» = plan .«door_transition_ticks»;
+  «door_open_ticks» = plan .«door_open_ticks»;
   «going_up» = true;
   «going_down» = true;
   «going_forward» = false;
@@ -111,7 +112,7 @@ newCar line motion transition opening = record {
 -- what stands in a car's place before it is loaded
 abbrev pub emptyCar : Car
 emptyCar =
-    newCar 0 (record { position = zero; velocity = zero; «max_speed» = zero; acceleration = zero; deceleration = zero; «inspection_speed_factor» = zero }) 0 0
+    newCar (record { line = 0; motion = record { position = zero; velocity = zero; «max_speed» = zero; acceleration = zero; deceleration = zero; «inspection_speed_factor» = zero }; «door_transition_ticks» = 0; «door_open_ticks» = 0 })
 
 -- "nothing loaded or queued, no hall call, no start, no tick made and every counter 0"
 unfoldable pub emptyWorld : World

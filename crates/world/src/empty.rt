@@ -3,6 +3,7 @@ ghost use mathlib.Core.Path.{_≡_};
 ghost use Rattle.world.specs.World.{newCar, emptyCar, emptyWorld};
 use crate::Car;
 use crate::CarOption;
+use crate::CarPlan;
 use crate::ElevatorPhase;
 use crate::Line;
 use crate::LineKind;
@@ -19,22 +20,23 @@ use door::DoorCommand;
 use door::DoorState;
 
 // A car as it is loaded.
-pub fn new_car(line: u8, motion: Motion, transition_ticks: u32, open_ticks: u32) -> Car
-    ensures { λ r. ⌜ r ≡ newCar line motion «transition_ticks» «open_ticks» ⌝ }
+pub fn new_car(plan: CarPlan) -> Car
+    ensures { λ r. ⌜ r ≡ newCar plan ⌝ }
 {
     let command = QueuedCommand {
         command: DoorCommand::Open,
     };
     let commands = [command; 8];
+    let motion = plan.motion;
     Car {
-        line,
+        line: plan.line,
         phase: ElevatorPhase::Idle,
         door: DoorState::Closed,
         service_mode: ServiceMode::Normal,
         enabled: true,
         motion,
-        door_transition_ticks: transition_ticks,
-        door_open_ticks: open_ticks,
+        door_transition_ticks: plan.door_transition_ticks,
+        door_open_ticks: plan.door_open_ticks,
         going_up: true,
         going_down: true,
         going_forward: false,
@@ -62,7 +64,12 @@ fn empty_car() -> Car
         deceleration: 0.0,
         inspection_speed_factor: 0.0,
     };
-    new_car(0, motion, 0, 0)
+    new_car(CarPlan {
+        line: 0,
+        motion,
+        door_transition_ticks: 0,
+        door_open_ticks: 0,
+    })
 }
 
 // Nothing loaded or queued, no hall call, no start, no tick made and every counter 0.

@@ -84,6 +84,14 @@ pub struct QueuedCommand {
     pub command: DoorCommand,
 }
 
+// What a car's record says of it: its line, its motion and its door's times.
+pub struct CarPlan {
+    pub line: u8,
+    pub motion: Motion,
+    pub door_transition_ticks: u32,
+    pub door_open_ticks: u32,
+}
+
 // components/elevator.rs, Elevator, with its position, its destination queue and its reposition cooldown.
 pub struct Car {
     pub line: u8,

@@ -1,7 +1,7 @@
 -- `record::other_record` meets its contract. Assumes nothing.
 use mathlib.Core.Path.{_≡_, sym, _∙_}
 use Rattle.tape.specs.Tape.{decoded}
-use Rattle.tape.specs.declared.Read.the-variants.{Accepted}
+use Rattle.tape_records.specs.declared.Read.the-variants.{Accepted}
 use Rattle.record.proofs.Dispatch.{head-tick}
 use Rattle.record.proofs.Giving.{as-changed, is-refused, is-taken}
 use borrow.Author.Needs.{needs}

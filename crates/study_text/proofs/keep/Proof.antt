@@ -4,7 +4,7 @@ use Prim.Native.Nat.{_≤_, _-_}
 use native.Mathlib.Omega.{arith}
 use borrow.Author.Needs.{needs}
 use Rattle.log.proofs.Writing.{wrote-none}
-use Rattle.study_text.proofs.Putting.{Keeping, keeping, keep-more, keep-done, kept-none}
+use Rattle.study_text.proofs.Keeping.{Keeping, keeping, keep-more, keep-done, kept-none}
 use Rattle.study_text.proofs.keep.Statement.{statement}
 use Rattle.study_text.proofs.keep.Tie as tie
 

@@ -6,7 +6,8 @@ use lib.ListN.{length, drop}
 use borrow.Author.Needs.{needs}
 use Rattle.log.proofs.Writing.{wrote-length}
 use Rattle.study_text.specs.Text.{wordsOf}
-use Rattle.study_text.proofs.Putting.{Finishes, begins, goes-on, done, next-word, no-word}
+use Rattle.study_numbers.proofs.Putting.{Finishes, begins, goes-on, done}
+use Rattle.study_text.proofs.Keeping.{next-word, no-word}
 use Rattle.study_text.proofs.words_of.Statement.{statement}
 use Rattle.study_text.proofs.words_of.Tie as tie
 

@@ -1,13 +1,14 @@
 -- `tape::decode` meets its contract. Assumes nothing.
-use mathlib.Core.Path.{_≡_, ap, sym, _∙_}
-use mathlib.Core.List.{List}
+use mathlib.Core.Path.{_≡_, refl, ap, sym, _∙_}
+use mathlib.Core.List.{List, [], _∷_}
 use Prim.Native.Nat.{ℕ}
 use native.Mathlib.Omega.{arith}
 use lib.ListN.{length}
 use denote.Ref.{now}
 use borrow.Author.Needs.{needs}
 use borrow.Author.Tests.{eq-eqb, ne-eqb}
-use Rattle.tape.specs.Tape.{refused, kindIn, kinds, recordOf, decoded}
+use Rattle.tape_records.specs.Answers.{refused}
+use Rattle.tape.specs.Tape.{Kind, kindIn, kinds, recordOf, decoded}
 use Rattle.world.specs.declared.refusal.Refusal.the-variants.{UnknownKind}
 use Rattle.tape.proofs.decode.Statement.{statement}
 use Rattle.tape.proofs.decode.Tie as tie
@@ -15,6 +16,20 @@ use Rattle.tape.proofs.decode.Tie as tie
 returns : tie.Need-returns
 unfolding decoded
 returns c = rw (eq-eqb (length (now (c .before .before .before .args .words))) 0 (omega arith)) (c .refused .ensures)
+
+-- no kind of a list is k, which is what the last arm of a match knows
+abbrev NoneOf : ℕ → List Kind → Type 0 → Type 0
+NoneOf k [] A = A
+NoneOf k (t ∷ ts) A = NoneOf k ts (A × (k ≡ t .number → ⊥))
+
+before-all : (k : ℕ) (ts : List Kind) (A : Type 0) → NoneOf k ts A → A
+before-all k [] A r = r
+before-all k (t ∷ ts) A r = before-all k ts (A × (k ≡ t .number → ⊥)) r .0
+
+unknown : (k : ℕ) (ts : List Kind) (A : Type 0) → NoneOf k ts A → refused UnknownKind ≡ kindIn k ts
+unknown k [] A r = refl
+unknown k (t ∷ ts) A r =
+    rw (ne-eqb k (t .number) (before-all k ts (A × (k ≡ t .number → ⊥)) r .1)) (unknown k ts (A × (k ≡ t .number → ⊥)) r)
 
 -- past the first word
 module _ (c : tie.After-head-of) where
@@ -27,29 +42,6 @@ module _ (c : tie.After-head-of) where
 
 known : (k : ℕ) (c : tie.After-head-of) → c .head-of .result .kind ≡ k → kindIn k (kinds (c .head-of .result) (words c)) ≡ decoded (words c)
 known k c e = ap (λ (j : ℕ). kindIn j (kinds (c .head-of .result) (words c))) (sym e) ∙ whole c
-
-unknown : (c : tie.At-match-rest) → refused UnknownKind ≡ kindIn (c .before .head-of .result .kind) (kinds (c .before .head-of .result) (words (c .before)))
-unknown c =
-    let k = c .before .head-of .result .kind in
-    let r = c .match .rest in
-    rw (
-      ne-eqb k 1 (r .0 .0 .0 .0 .0 .0 .0 .0 .0 .0 .0 .0 .1),
-      ne-eqb k 2 (r .0 .0 .0 .0 .0 .0 .0 .0 .0 .0 .0 .1),
-      ne-eqb k 3 (r .0 .0 .0 .0 .0 .0 .0 .0 .0 .0 .1),
-      ne-eqb k 4 (r .0 .0 .0 .0 .0 .0 .0 .0 .0 .1),
-      ne-eqb k 5 (r .0 .0 .0 .0 .0 .0 .0 .0 .1),
-      ne-eqb k 6 (r .0 .0 .0 .0 .0 .0 .0 .1),
-      ne-eqb k 7 (r .0 .0 .0 .0 .0 .0 .1),
-      ne-eqb k 8 (r .0 .0 .0 .0 .0 .1),
-      ne-eqb k 9 (r .0 .0 .0 .0 .1),
-      ne-eqb k 10 (r .0 .0 .0 .1),
-      ne-eqb k 11 (r .0 .0 .1),
-      ne-eqb k 12 (r .0 .1),
-      ne-eqb k 13 (r .1),
-    )
-
-returns-15 : tie.Need-returns-15
-returns-15 c = c .refused2 .ensures ∙ unknown (c .before) ∙ whole (c .before .before)
 
 pub decode-spec : {M : Type 1} → statement M
 decode-spec =
@@ -86,4 +78,4 @@ decode-spec =
     (λ c. c .decode-enable .ensures ∙ known 11 (c .before .before) (c .before .match .keys11))
     (λ c. c .decode-tick .ensures ∙ known 12 (c .before .before) (c .before .match .keys12))
     (λ c. c .decode-start .ensures ∙ known 13 (c .before .before) (c .before .match .keys13))
-    returns-15)
+    (λ c. c .refused2 .ensures ∙ unknown _ (kinds (c .before .before .head-of .result) (words (c .before .before))) Unit (c .before .match .rest) ∙ whole (c .before .before)))

@@ -6,12 +6,14 @@ use Prim.Native.Nat.{ℕ, _≤_}
 use native.Mathlib.Omega.{arith}
 use lib.ListN.{length}
 use borrow.Author.Needs.{needs}
+use Rattle.layout.specs.Layout.{kindOf}
 use Rattle.tape.specs.Tape.{beginsTick}
 use Rattle.tape.proofs.is_tick.Statement.{statement}
 use Rattle.tape.proofs.is_tick.Tie as tie
 
 -- where there is no word there is no tick
 no-word : (ws : List ℕ) → length ws ≤ 0 → false ≡ beginsTick ws
+unfolding kindOf
 no-word [] h = refl
 no-word (w ∷ ws) h = absurd (omega arith)
 

@@ -10,7 +10,7 @@ use Rattle.world.specs.World.{emptyWorld}
 use Rattle.next_stop.specs.NextStop.{loopNextStopForCar}
 use Rattle.leader.specs.Leader.{leaderTo, loopLeaderPos}
 use Rattle.sorted.specs.Sorted.{positionBefore, stopBefore, inserted, sortedStops}
-use Rattle.log.specs.Words.{word, tickWord}
+use Rattle.log_words.specs.Words.{word, tickWord}
 use Rattle.steps.specs.Steps.{lineOf, runTo, runCars}
 use Rattle.laws.specs.Numbers.{plus}
 use Rattle.arrival.specs.Arrival.{ridersTo, queuedTo, directionFromRemainingWork, popped}

@@ -1,9 +1,0 @@
--- `tape::loads::phase_car_outside` meets its contract. Assumes nothing.
-use Rattle.tape.proofs.loads.phase_car_outside.Statement.{statement}
-use Rattle.tape.proofs.loads.phase_car_outside.Tie as tie
-
-pub phase-car-outside-spec : {M : Type 1} → statement M
-phase-car-outside-spec =
-    tie.close
-    (tie.spec (λ c. rw (c .if1 .taken))
-    (λ c. rw (c .if1 .left)))
