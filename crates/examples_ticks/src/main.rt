@@ -6,9 +6,9 @@ mod text; // the output, gathered in a buffer
 
 ghost use Prim.Native.Nat.{_<_};
 use libc::STDIN_FILENO;
+use study_numbers::put;
 use text::flush;
 use text::flush_half;
-use text::put;
 
 // How far the reading is: behind a '=', `count` words and the `value` of the next, where it has `begun`. `at` is the place in the output's buffer.
 struct Reading {

@@ -1,13 +1,13 @@
 // A tape's records, taken one after the other.
 ghost use Prim.Native.Nat.{_≤_};
-use crate::show::put_refusal;
 use crate::show::put_tick;
+use crate::text::flush_half;
 use laws::at_most;
 use record::Answer;
 use record::record;
+use study_text::put_refused;
 use world::World;
 use world::empty::empty;
-use world::refusal::number;
 
 // What is printed of an answer. A tick writes its own word at least, and no other record writes one.
 fn put_answer(out: &mut [u8], at: usize, log: &[u32], answer: Answer, world: World) -> usize {
@@ -18,7 +18,10 @@ fn put_answer(out: &mut [u8], at: usize, log: &[u32], answer: Answer, world: Wor
             }
             put_tick(out, at, log, written, world)
         }
-        Answer::Refused(refusal) => put_refusal(out, at, number(refusal)),
+        Answer::Refused(refusal) => {
+            let to = flush_half(out, at);
+            put_refused(out, to, refusal)
+        }
     }
 }
 

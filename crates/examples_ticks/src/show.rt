@@ -1,14 +1,13 @@
 // What is printed of a tick: a line of its words, a line a car, a line with the counters and the hall calls.
 ghost use Prim.Native.Nat.{_≤_};
 use crate::text::flush_half;
-use crate::text::put;
 use crate::text::put_digits;
 use crate::text::put_float;
 use crate::text::put_number;
-use crate::text::put_text;
 use door::DoorCommand;
 use door::DoorState;
 use laws::at_most;
+use study_numbers::put;
 use world::Car;
 use world::ElevatorPhase;
 use world::QueuedCommand;
@@ -234,13 +233,4 @@ pub fn put_tick(out: &mut [u8], at: usize, log: &[u32], count: usize, world: Wor
     to = put_words(out, to, log, count);
     to = put_cars(out, to, cars, world.car_count);
     put_totals(out, to, world)
-}
-
-pub fn put_refusal(out: &mut [u8], at: usize, number: u32) -> usize {
-    let mut digits = [0u8; 20];
-    let count = io::decimal(number as u64, &mut digits);
-    let mut to = flush_half(out, at);
-    to = put_text(out, to, b"refused ");
-    to = put_text(out, to, &digits[..count]);
-    put(out, to, b'\n')
 }

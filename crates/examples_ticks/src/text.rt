@@ -1,25 +1,6 @@
-// Text is gathered in a buffer that the caller lends. Each function answers the next place.
+// What study_numbers does not print: hexadecimal numbers of any width, the bits of floats. Text is gathered in a buffer that the caller lends. Each function answers the next place.
 ghost use Prim.Native.Nat.{_≤_};
 use libc::STDOUT_FILENO;
-
-// A byte. Past the buffer's end it is dropped.
-pub fn put(out: &mut [u8], at: usize, byte: u8) -> usize {
-    if at < out.len() {
-        out[at] = byte;
-        return at + 1;
-    }
-    at
-}
-
-pub fn put_text(out: &mut [u8], at: usize, text: &[u8]) -> usize {
-    let mut to = at;
-    let mut i: usize = 0;
-    while i < text.len() {
-        to = put(out, to, text[i]);
-        i += 1;
-    }
-    to
-}
 
 // A number's last digits in hexadecimal, so many. Where they do not fit, they are dropped.
 pub fn put_digits(out: &mut [u8], at: usize, number: u64, width: usize) -> usize {
