@@ -1,5 +1,5 @@
 -- A car's turn in either system keeps what the third condition needs of the car. Assumes nothing.
-use mathlib.Core.Path.{_≡_, refl, sym, _∙_}
+use mathlib.Core.Path.{_≡_, refl, sym, ap, _∙_}
 use mathlib.Core.Bool.{Bool, true, false, _&&_, Bool·beq}
 use mathlib.Core.List.{List, [], _∷_, _++_}
 use Prim.Native.Nat.{ℕ, zero, suc, _+_, _-_, _*_, _<_, min}
@@ -26,23 +26,22 @@ use Rattle.world.specs.declared.StopOption.{StopOption}
 use Rattle.world.specs.declared.StopOption.the-variants.{NoStop, Stop}
 use Rattle.log.specs.Words.{codeOf, ticksOf}
 use Rattle.laws.specs.Numbers.{bit}
-use Rattle.steps.specs.Steps.{isManual, isInspection, lineOf, lampsOf, bothLit, unlit, updateIndicators, Step}
+use Rattle.steps.specs.Steps.{isManual, isInspection, lampsOf, bothLit, unlit, updateIndicators, Step}
 use Rattle.world.specs.declared.Lamps.{Lamps}
-use Rattle.trips.specs.Trips.{tripBy, tripOf, travelled, distanceAfter}
-use Rattle.trips.specs.Spans.{spanOf, movingUp}
-use Rattle.landing.specs.Landing.{leaderOf, landing}
-use Rattle.arrival.specs.Arrival.{arrivalLamps, workOf}
+use Rattle.trips.specs.Trips.{tripBy, tripOf, isTrip}
+use Rattle.trips.specs.Spans.{movingUp}
 use Rattle.trips.specs.declared.Trip.{Trip}
-use Rattle.trips.specs.declared.Trip.the-variants.{Rests, GoesTo, Repositions}
+use Rattle.trips.specs.declared.Trip.the-variants.{GoesTo, Repositions}
 use Rattle.movement_system.specs.Passing.{passingWords}
 use Rattle.movement_system.specs.Movement as Movement
-use Rattle.movement_system.specs.Movement.{passedOver, moveOf}
+use Rattle.movement_system.specs.Movement.{moveOf}
+use Rattle.movement_system.proofs.Cases.{move-cases}
 use Rattle.door_commands.specs.Commands.{applyOpen, applyClose, applyHold, applyCancelHold, tryApplyCommand, queued, triedOn, workTo, workWordsTo, processDoorCommands, commandWords}
 use Rattle.doors_system.specs.Doors.{doorTurn, doorOf}
 use Rattle.door_ticks.specs.Ticks.{Turn, departedFrom, finishedOpening, finishedClosing, finishBy, stays, rests, doorBy}
 use Rattle.door_commands.specs.declared.Tried.{Tried}
 use Rattle.door_commands.specs.declared.Work.{Work}
-use Rattle.laws.proofs.Choices.{both, cases}
+use Rattle.laws.proofs.Choices.{both}
 use Rattle.certificate.proofs.Watch.{Told, told-none, told-join, told-dull, told-word}
 
 -- phase and door agree, and where the door is closed the log says so too
@@ -82,89 +81,65 @@ passing-told i up [] low = told-none i false
 passing-told i up (s ∷ ss) low = told-join (told-word i low 1 s (bit up) (λ _. refl) refl) (passing-told i up ss low)
 
 -- a car that makes a trip has a closed door, by the log too
-data Suited : Trip → DoorState → Bool → Type 0 where
-  resting : {d : DoorState} {o : Bool} → Suited Rests d o
-  going : {s : ℕ} → Suited (GoesTo s) Closed false
-  repositions : {s : ℕ} → Suited (Repositions s) Closed false
+abbrev Shut : DoorState → Bool → Trip → Type 0
+Shut d o trip = isTrip trip ≡ true → (d ≡ Closed) × (o ≡ false)
 
-suited-by : (p : ElevatorPhase) (d : DoorState) (o : Bool) → Sound p d o → Suited (tripBy p) d o
-suited-by p d o idle = resting
-suited-by p d o stopped = resting
-suited-by p d o moving = going
-suited-by p d o repositioning = repositions
-suited-by p d o opening = resting
-suited-by p d o loading = resting
-suited-by p d o closing = resting
+shut-by : (p : ElevatorPhase) (d : DoorState) (o : Bool) → Sound p d o → Shut d o (tripBy p)
+shut-by p d o idle h = no h
+shut-by p d o stopped h = no h
+shut-by p d o moving h = (refl, refl)
+shut-by p d o repositioning h = (refl, refl)
+shut-by p d o opening h = no h
+shut-by p d o loading h = no h
+shut-by p d o closing h = no h
 
-suited : (c : Car) (o : Bool) → Fit c o → Suited (tripOf c) (c .door) o
-suited c o f =
-    both (λ (t : Trip). Suited t (c .door) o) (c .enabled)
-    (cases (λ (t : Trip). Suited t (c .door) o) (isManual (c .«service_mode»)) (λ (h : isManual (c .«service_mode») ≡ true). yes (sym h ∙ f .tame))
-    (λ h. suited-by (c .phase) (c .door) o (f .sound)))
-    resting
+shut : (c : Car) (o : Bool) → Fit c o → Shut (c .door) o (tripOf c)
+shut c o f =
+    both (Shut (c .door) o) (c .enabled)
+    (rw (f .tame) (shut-by (c .phase) (c .door) o (f .sound)))
+    (λ h. no h)
 
-module _ (i : ℕ) (low : i < 16) (kind : LineKind) (stops : List Float) (n tick total : ℕ) (c : Car) (r : MovementResult) where
-  abbrev Moves : Bool → Step → Type 0
-  Moves o s = Good i o (s .car) (s .words)
-
-  pass-good : (distance : Float) (ss : List ℕ) → Fit c false → Moves false (Movement.passOf i kind total c r distance ss)
-  pass-good distance ss f = record { end = false; told = passing-told i (movingUp kind (c .motion .position) (r .position)) ss low; fit = record { sound = f .sound; tame = f .tame } }
-
-  arrived-good : (distance : Float) (s : ℕ) (lamps : Lamps) → Fit c false → Moves false (Movement.arrivedOf i total c r distance s lamps)
-  arrived-good distance s lamps f = record {
-    end = false;
-    told = told-join (told-word i low 2 s 0 (λ _. refl) refl) (lamps-told i false (lampsOf c) lamps);
-    fit = record { sound = opening; tame = f .tame };
-  }
-
-  repositioned-good : (distance : Float) (s : ℕ) → c .door ≡ Closed → Fit c false → Moves false (Movement.repositionedOf i tick total c r distance s)
-  repositioned-good distance s e f = record {
-    end = false;
-    told =
-        told-join (told-word i low 3 s 0 (λ _. refl) refl)
-        (told-join (told-dull i false 4 i s 0 refl refl refl) (lamps-told i false (lampsOf c) bothLit));
-    fit = record { sound = rw e idle; tame = f .tame };
-  }
-
-  turn-good : (trip : Trip) (d : DoorState) (o : Bool) (distance : Float) (work : Lamps) → Suited trip d o → c .door ≡ d → Fit c o
-      → Moves o (Movement.turnBy trip i kind stops n tick total distance c r work)
-  turn-good trip d o distance work resting e f = still i o c f
-  turn-good trip d o distance work (going {s}) e f =
-      both (Moves false) (r .arrived) (arrived-good distance s (arrivalLamps kind work c) f)
-      (pass-good distance (passedOver (spanOf kind (c .motion .position) (r .position)) stops n (Stop s)) f)
-  turn-good trip d o distance work (repositions {s}) e f =
-      let far : Float = distanceAfter distance (travelled kind (c .motion .position) (r .position)) in
-      both (Moves false) (r .arrived) (repositioned-good far s e f)
-      (pass-good far (passedOver (spanOf kind (c .motion .position) (r .position)) stops n (Stop s)) f)
-
-  -- a car whose door is not closed is left as it is
-  turn-rests : (trip : Trip) (d : DoorState) (o : Bool) (distance : Float) (work : Lamps) → Suited trip d o → isClosed d ≡ false
-      → Movement.turnBy trip i kind stops n tick total distance c r work .car ≡ c
-  turn-rests trip d o distance work resting h = refl
-  turn-rests trip d o distance work going h = yes h
-  turn-rests trip d o distance work repositions h = yes h
-
-module _ (dt : Float) (w : World) (i : ℕ) (o : Bool) (low : i < 16) (f : Fit (carAt (w .cars) i) o) where
+module _ (w : World) (i : ℕ) (o : Bool) (low : i < 16) (f : Fit (carAt (w .cars) i) o) where
   abbrev c : Car
   c = carAt (w .cars) i
 
-  abbrev kind : LineKind
-  kind = lineOf (w .lines) (c .line) .kind
+  abbrev Moves : Step → Type 0
+  Moves s = Good i o (s .car) (s .words)
 
-  abbrev land : MovementResult
-  land = landing (tripOf c) kind (leaderOf kind (w .cars) (w .«car_count») i c) c (w .stops) dt
+  pass-good : isTrip (tripOf c) ≡ true → (trip : Trip) (kind : LineKind) (r : MovementResult) → Moves (Movement.passes w i trip kind r)
+  pass-good e trip kind r =
+      rw (shut c o f e .1)
+      (record { end = false; told = passing-told i (movingUp kind (c .motion .position) (r .position)) _ low; fit = record { sound = rw (shut c o f e .1) at (f .sound); tame = f .tame } })
 
-  pub move-good : Good i o (moveOf dt w i .car) (moveOf dt w i .words)
-  unfolding moveOf
-  move-good =
-      turn-good i low kind (w .stops) (min (w .«stop_count») 64) (w .ticks) (w .«total_moves») c land (tripOf c) (c .door) o (w .«reposition_distance»)
-      (workOf (tripOf c) (w .riders) (w .«rider_count») c (w .stops) i) (suited c o f) refl f
+  arrived-good : isTrip (tripOf c) ≡ true → (s : ℕ) (kind : LineKind) (r : MovementResult) (lamps : Lamps) → Moves (Movement.arrives w i (GoesTo s) kind r lamps)
+  arrived-good e s kind r lamps =
+      rw (shut c o f e .1)
+      (record {
+        end = false;
+        told = told-join (told-word i low 2 s 0 (λ _. refl) refl) (lamps-told i false (lampsOf c) lamps);
+        fit = record { sound = opening; tame = f .tame };
+      })
 
-  pub move-rests : isClosed (c .door) ≡ false → moveOf dt w i .car ≡ c
-  unfolding moveOf
-  move-rests =
-      turn-rests i low kind (w .stops) (min (w .«stop_count») 64) (w .ticks) (w .«total_moves») c land (tripOf c) (c .door) o (w .«reposition_distance»)
-      (workOf (tripOf c) (w .riders) (w .«rider_count») c (w .stops) i) (suited c o f)
+  repositioned-good : isTrip (tripOf c) ≡ true → (s : ℕ) (kind : LineKind) (r : MovementResult) (lamps : Lamps)
+      → Moves (Movement.arrives w i (Repositions s) kind r lamps)
+  repositioned-good e s kind r lamps =
+      rw (shut c o f e .1)
+      (record {
+        end = false;
+        told =
+            told-join (told-word i low 3 s 0 (λ _. refl) refl)
+            (told-join (told-dull i false 4 i s 0 refl refl refl) (lamps-told i false (lampsOf c) bothLit));
+        fit = record { sound = rw (shut c o f e .0) idle; tame = f .tame };
+      })
+
+  pub move-good : (dt : Float) → Good i o (moveOf dt w i .car) (moveOf dt w i .words)
+  move-good = move-cases Moves w i (still i o c f) pass-good arrived-good repositioned-good
+
+  -- a car whose door is not closed is left as it is
+  pub move-rests : (dt : Float) → isClosed (c .door) ≡ false → moveOf dt w i .car ≡ c
+  move-rests dt h =
+      let no-trip : isTrip (tripOf c) ≡ true → ⊥ = λ e. yes (ap isClosed (sym (shut c o f e .0)) ∙ h) in
+      move-cases (λ s. s .car ≡ c) w i refl (λ e trip kind r. absurd (no-trip e)) (λ e s kind r lamps. absurd (no-trip e)) (λ e s kind r lamps. absurd (no-trip e)) dt
 
 -- ---- door commands
 

@@ -7,7 +7,6 @@ use native.Mathlib.Omega.{arith}
 use lib.Dec.{ltb, eqb}
 use lib.ListN.{getD}
 use lib.Ieee.{Float}
-use Rattle.motion.specs.declared.movement.MovementResult.{MovementResult}
 use Rattle.door.specs.Door.{tick}
 use Rattle.door.specs.declared.DoorState.{DoorState}
 use Rattle.door.specs.declared.DoorCommand.{DoorCommand}
@@ -15,7 +14,8 @@ use Rattle.door.specs.declared.DoorCommand.the-variants as Command
 use Rattle.door.specs.declared.DoorTransition.{DoorTransition}
 use Rattle.door.specs.declared.DoorTransition.the-variants.{None, FinishedOpening, FinishedOpen, FinishedClosing}
 use Rattle.sound.specs.Sound.{anyTo, unloaded, stopUnloaded, phaseUnloaded, lineBroken}
-use Rattle.world.specs.World.{lineAt}
+use Rattle.world.specs.World.{lineAt, carAt}
+use Rattle.world.specs.declared.World.{World}
 use Rattle.world.specs.declared.Car.{Car}
 use Rattle.world.specs.declared.Line.{Line}
 use Rattle.world.specs.declared.LineKind.{LineKind}
@@ -27,14 +27,11 @@ use Rattle.world.specs.declared.StopOption.{StopOption}
 use Rattle.world.specs.declared.StopOption.the-variants.{NoStop, Stop}
 use Rattle.next_stop.specs.NextStop.{loopNextStopForward, nextStopBy, loopNextStopForCar}
 use Rattle.next_stop.proofs.Served.{next-is-served}
-use Rattle.steps.specs.Steps.{lineOf, Step}
-use Rattle.world.specs.declared.Lamps.{Lamps}
+use Rattle.steps.specs.Steps.{lineOf}
 use Rattle.world.specs.declared.Queue.{Queue}
-use Rattle.trips.specs.Spans.{spanOf, manualSpan}
-use Rattle.arrival.specs.Arrival.{shifted, popped, arrivalLamps}
-use Rattle.trips.specs.declared.Trip.{Trip}
-use Rattle.trips.specs.declared.Trip.the-variants.{Rests, Drives, GoesTo, Repositions}
-use Rattle.movement_system.specs.Movement.{passedOver, passOf, repositionedOf, arrivedOf, turnBy}
+use Rattle.arrival.specs.Arrival.{shifted, popped}
+use Rattle.movement_system.specs.Movement.{moveOf}
+use Rattle.movement_system.proofs.Cases.{move-cases}
 use Rattle.door_commands.specs.Commands.{applyOpen, applyClose, applyHold, applyCancelHold, tryApplyCommand, worked, queued, triedOn, workTo, processDoorCommands}
 use Rattle.doors_system.specs.Doors.{doorTurn}
 use Rattle.door_ticks.specs.Ticks.{Turn, rested, finishedClosing, finishBy, stays, doorBy}
@@ -85,27 +82,13 @@ module _ (lines stops : ℕ) (c : Car) (h : CarIn lines stops c) where
       (record { few = omega (arith, h .queue .few); loaded = λ k l. rw (shifted-at (c .«destination_queue») k (omega (arith, h .queue .few))) (h .queue .loaded (suc k) (omega arith)) })
       (h .queue)
 
-  abbrev Keeps : Step → Type 0
-  Keeps s = CarIn lines stops (s .car)
-
-  module _ (i : ℕ) (kind : LineKind) (positions : List Float) (n at total : ℕ) (r : MovementResult) where
-    pass-in : (distance : Float) (ss : List ℕ) → Keeps (passOf i kind total c r distance ss)
-    pass-in distance ss = record { commands = h .commands; line = h .line; phase = h .phase; target = h .target; queue = h .queue }
-
-    arrived-in : (distance : Float) (s : ℕ) (lamps : Lamps) → Keeps (arrivedOf i total c r distance s lamps)
-    arrived-in distance s lamps = record { commands = h .commands; line = h .line; phase = refl; target = h .target; queue = pop-in s }
-
-    repositioned-in : (distance : Float) (s : ℕ) → Keeps (repositionedOf i at total c r distance s)
-    repositioned-in distance s = record { commands = h .commands; line = h .line; phase = refl; target = refl; queue = pop-in s }
-
-    pub move-in : (trip : Trip) (distance : Float) (work : Lamps) → Keeps (turnBy trip i kind positions n at total distance c r work)
-    move-in Rests distance work = h
-    move-in Drives distance work = pass-in distance (passedOver (manualSpan kind (c .motion .position) (r .position) (r .velocity)) positions n NoStop)
-    move-in (GoesTo s) distance work =
-        both Keeps (r .arrived) (arrived-in distance s (arrivalLamps kind work c))
-        (pass-in distance (passedOver (spanOf kind (c .motion .position) (r .position)) positions n (Stop s)))
-    move-in (Repositions s) distance work =
-        both Keeps (r .arrived) (repositioned-in distance s) (pass-in distance (passedOver (spanOf kind (c .motion .position) (r .position)) positions n (Stop s)))
+pub move-in : (lines stops : ℕ) (dt : Float) (w : World) (i : ℕ) → CarIn lines stops (carAt (w .cars) i) → CarIn lines stops (moveOf dt w i .car)
+unfolding popped
+move-in lines stops dt w i h =
+    move-cases (λ s. CarIn lines stops (s .car)) w i h
+    (λ e trip kind r. record { commands = h .commands; line = h .line; phase = h .phase; target = h .target; queue = h .queue })
+    (λ e s kind r lamps. record { commands = h .commands; line = h .line; phase = refl; target = h .target; queue = pop-in lines stops (carAt (w .cars) i) h s })
+    (λ e s kind r lamps. record { commands = h .commands; line = h .line; phase = refl; target = refl; queue = pop-in lines stops (carAt (w .cars) i) h s }) dt
 
 -- ---- door commands
 

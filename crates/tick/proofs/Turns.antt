@@ -28,20 +28,18 @@ use Rattle.log.proofs.Reading.{kind-word}
 use Rattle.steps.specs.Steps.{lineOf, lampsOf, bothLit, unlit, updateIndicators, Step, notOpened}
 use Rattle.laws.specs.Numbers.{plus}
 use Rattle.world.specs.declared.Lamps.{Lamps}
-use Rattle.trips.specs.Trips.{tripOf}
-use Rattle.trips.specs.Spans.{spanOf, manualSpan, movingUp}
-use Rattle.landing.specs.Landing.{landing, leaderOf}
-use Rattle.arrival.specs.Arrival.{arrivalLamps, workOf}
+use Rattle.trips.specs.Spans.{movingUp}
 use Rattle.trips.specs.declared.Trip.{Trip}
-use Rattle.trips.specs.declared.Trip.the-variants.{Rests, Drives, GoesTo, Repositions}
+use Rattle.trips.specs.declared.Trip.the-variants.{GoesTo, Repositions}
 use Rattle.movement_system.specs.Passing.{passingWords}
-use Rattle.movement_system.specs.Movement.{passedOver, passOf, repositionedOf, arrivedOf, turnBy, moveOf}
+use Rattle.movement_system.specs.Movement.{passedBy, passes, arrives, moveOf}
+use Rattle.movement_system.proofs.Cases.{move-cases}
 use Rattle.door_commands.specs.Commands.{queued, triedOn, workTo, workWordsTo, processDoorCommands, commandWords}
 use Rattle.doors_system.specs.Doors.{doorTurn, stepBy, turnOn, doorOf}
 use Rattle.door_ticks.specs.Ticks.{Turn, openedAt, departedFrom, finishedClosing, finishBy, stays, doorBy, after}
 use Rattle.door_commands.specs.declared.Work.{Work}
 use Rattle.tick.specs.Counters.{isMove, movesIn}
-use Rattle.tick.proofs.Passed.{span-fits, manual-fits}
+use Rattle.tick.proofs.Passed.{passed-fits}
 use Rattle.laws.proofs.Choices.{both}
 
 -- ---- words
@@ -122,69 +120,56 @@ one-move : (k n s v : ℕ) {m : ℕ} {ws : List ℕ} → isMove k ≡ true → Q
 unfolding movesIn
 one-move k n s v h q = rw (kind-word k n s v, h) (ap suc (q .none))
 
-module _ (i : ℕ) (kind : LineKind) (stops : List Float) (n : ℕ) (few : n ≤ 64) (tick total : ℕ) (c : Car) (r : MovementResult) where
-  abbrev Moves : Step → Type 0
-  Moves s = Fair (n + 3) 64 total c s
+module _ (w : World) (i : ℕ) where
+  abbrev c : Car
+  c = carAt (w .cars) i
 
-  pass-fair : (distance : Float) (ss : List ℕ) → length ss ≤ n → Moves (passOf i kind total c r distance ss)
-  pass-fair distance ss h = record {
-    size = omega (arith, passing-size i up ss);
-    few = omega (arith, passing-moves i up ss);
-    car = λ l. plus-plain (c .«move_count») (length ss) l (omega arith) ∙ omega (arith, passing-moves i up ss);
-    total = λ l. plus-plain total (length ss) l (omega arith) ∙ omega (arith, passing-moves i up ss);
+  abbrev Moves : Step → Type 0
+  Moves s = Fair (w .«stop_count» + 3) 64 (w .«total_moves») c s
+
+  pass-fair : (trip : Trip) (kind : LineKind) (r : MovementResult) → Moves (passes w i trip kind r)
+  pass-fair trip kind r = record {
+    size = omega (arith, fits, passing-size i up ss);
+    few = omega (arith, fits, passing-moves i up ss);
+    car = λ l. plus-plain (c .«move_count») (length ss) l (omega (arith, fits)) ∙ omega (arith, passing-moves i up ss);
+    total = λ l. plus-plain (w .«total_moves») (length ss) l (omega (arith, fits)) ∙ omega (arith, passing-moves i up ss);
   }
     where
       up : Bool
       up = movingUp kind (c .motion .position) (r .position)
 
+      ss : List ℕ
+      ss = passedBy trip kind (w .stops) (min (w .«stop_count») 64) (c .motion .position) r
+
+      fits : length ss ≤ min (w .«stop_count») 64
+      fits = passed-fits trip kind (w .stops) (min (w .«stop_count») 64) (c .motion .position) r
+
   -- a turn of one move
   one-fair : (s : Step) → s .opened ≡ notOpened → length (s .words) ≤ 3 → movesIn (s .words) ≡ 1 → s .car .«move_count» ≡ plus (c .«move_count») 1
-      → s .total ≡ plus total 1 → Moves s
+      → s .total ≡ plus (w .«total_moves») 1 → Moves s
   one-fair s o h m p q = record {
     size = rw o (omega arith);
     few = omega arith;
     car = λ l. p ∙ plus-plain (c .«move_count») 1 l (omega arith) ∙ omega arith;
-    total = λ l. q ∙ plus-plain total 1 l (omega arith) ∙ omega arith;
+    total = λ l. q ∙ plus-plain (w .«total_moves») 1 l (omega arith) ∙ omega arith;
   }
 
-  arrived-fair : (distance : Float) (s : ℕ) (lamps : Lamps) → Moves (arrivedOf i total c r distance s lamps)
-  arrived-fair distance s lamps =
+  arrived-fair : (s : ℕ) (kind : LineKind) (r : MovementResult) (lamps : Lamps) → Moves (arrives w i (GoesTo s) kind r lamps)
+  arrived-fair s kind r lamps =
       let q : Quiet 1 (updateIndicators i (lampsOf c) lamps) = lamps-quiet i (lampsOf c) lamps in
-      one-fair (arrivedOf i total c r distance s lamps) refl (omega (arith, q .size)) (one-move 2 i s 0 refl q) refl refl
+      one-fair (arrives w i (GoesTo s) kind r lamps) refl (omega (arith, q .size)) (one-move 2 i s 0 refl q) refl refl
 
-  repositioned-fair : (distance : Float) (s : ℕ) → Moves (repositionedOf i tick total c r distance s)
-  repositioned-fair distance s =
+  repositioned-fair : (s : ℕ) (kind : LineKind) (r : MovementResult) (lamps : Lamps) → Moves (arrives w i (Repositions s) kind r lamps)
+  repositioned-fair s kind r lamps =
       let q : Quiet 2 (wordOf (ElevatorIdle i s) ∷ updateIndicators i (lampsOf c) bothLit) =
       quiet-join (quiet-one 4 i s 0 refl) (lamps-quiet i (lampsOf c) bothLit) in
-      one-fair (repositionedOf i tick total c r distance s) refl (omega (arith, q .size)) (one-move 3 i s 0 refl q) refl refl
-
-  turn-fair : (trip : Trip) (distance : Float) (work : Lamps) → Moves (turnBy trip i kind stops n tick total distance c r work)
-  unfolding movesIn
-  turn-fair Rests distance work = record { size = omega arith; few = omega arith; car = λ l. omega arith; total = λ l. omega arith }
-  turn-fair Drives distance work =
-      pass-fair distance (passedOver (manualSpan kind (c .motion .position) (r .position) (r .velocity)) stops n NoStop)
-      (manual-fits stops n NoStop kind (c .motion .position) (r .position) (r .velocity))
-  turn-fair (GoesTo s) distance work =
-      both Moves (r .arrived) (arrived-fair distance s (arrivalLamps kind work c))
-      (pass-fair distance (passedOver (spanOf kind (c .motion .position) (r .position)) stops n (Stop s))
-      (span-fits stops n (Stop s) kind (c .motion .position) (r .position)))
-  turn-fair (Repositions s) distance work =
-      both Moves (r .arrived) (repositioned-fair _ s)
-      (pass-fair _ (passedOver (spanOf kind (c .motion .position) (r .position)) stops n (Stop s))
-      (span-fits stops n (Stop s) kind (c .motion .position) (r .position)))
-
-roomier : {m n most before : ℕ} {c : Car} {s : Step} → m ≤ n → Fair m most before c s → Fair n most before c s
-roomier h f = record { size = omega (arith, f .size); few = f .few; car = f .car; total = f .total }
+      one-fair (arrives w i (Repositions s) kind r lamps) refl (omega (arith, q .size)) (one-move 3 i s 0 refl q) refl refl
 
 pub move-fair : (dt : Float) (w : World) (i : ℕ) → Fair (w .«stop_count» + 3) 64 (w .«total_moves») (carAt (w .cars) i) (moveOf dt w i)
-unfolding moveOf
+unfolding movesIn
 move-fair dt w i =
-    let c : Car = carAt (w .cars) i in
-    let kind : LineKind = lineOf (w .lines) (c .line) .kind in
-    roomier (omega arith)
-    (turn-fair i kind (w .stops) (min (w .«stop_count») 64) (omega arith) (w .ticks) (w .«total_moves») c
-    (landing (tripOf c) kind (leaderOf kind (w .cars) (w .«car_count») i c) c (w .stops) dt) (tripOf c) (w .«reposition_distance»)
-    (workOf (tripOf c) (w .riders) (w .«rider_count») c (w .stops) i))
+    move-cases (Moves w i) w i (record { size = omega arith; few = omega arith; car = λ l. omega arith; total = λ l. omega arith }) (λ e. pass-fair w i)
+    (λ e. arrived-fair w i) (λ e. repositioned-fair w i) dt
 
 -- ---- doors
 
