@@ -7,14 +7,10 @@ use lib.Dec.{leb}
 use lib.Ieee.{Float}
 use Rattle.motion.specs.declared.movement.MovementResult.{MovementResult}
 use Rattle.laws.proofs.Bools.{yes, no}
-use Rattle.door.specs.Door.{isClosed, tick}
+use Rattle.door.specs.Door.{isClosed}
 use Rattle.door.specs.declared.Ticked.{Ticked}
 use Rattle.door.specs.declared.DoorState.{DoorState}
 use Rattle.door.specs.declared.DoorState.the-variants.{Closed, Opening, Open, Closing}
-use Rattle.door.specs.declared.DoorTransition.{DoorTransition}
-use Rattle.door.specs.declared.DoorTransition.the-variants.{None, FinishedOpening, FinishedOpen, FinishedClosing}
-use Rattle.door.specs.declared.DoorCommand.{DoorCommand}
-use Rattle.door.specs.declared.DoorCommand.the-variants as Command
 use Rattle.world.specs.World.{carAt}
 use Rattle.world.specs.declared.World.{World}
 use Rattle.world.specs.declared.Car.{Car}
@@ -36,10 +32,11 @@ use Rattle.movement_system.specs.Passing.{passingWords}
 use Rattle.movement_system.specs.Movement as Movement
 use Rattle.movement_system.specs.Movement.{moveOf}
 use Rattle.movement_system.proofs.Cases.{move-cases}
-use Rattle.door_commands.specs.Commands.{applyOpen, applyClose, applyHold, applyCancelHold, tryApplyCommand, queued, triedOn, workTo, workWordsTo, processDoorCommands, commandWords}
+use Rattle.door_commands.specs.Commands.{queued, triedOn, workTo, workWordsTo, processDoorCommands, commandWords}
+use Rattle.door_commands.proofs.Keeping.{commands-keep}
 use Rattle.doors_system.specs.Doors.{doorTurn, doorOf}
-use Rattle.door_ticks.specs.Ticks.{Turn, departedFrom, finishedOpening, finishedClosing, finishBy, stays, rests, doorBy}
-use Rattle.door_commands.specs.declared.Tried.{Tried}
+use Rattle.door_ticks.specs.Ticks.{Turn, departedFrom, finishedOpening, finishedClosing, finishBy, rests, doorBy}
+use Rattle.door_ticks.proofs.Cases.{door-cases}
 use Rattle.door_commands.specs.declared.Work.{Work}
 use Rattle.laws.proofs.Choices.{both}
 use Rattle.certificate.proofs.Watch.{Told, told-none, told-join, told-dull, told-word}
@@ -143,71 +140,18 @@ module _ (w : World) (i : ℕ) (o : Bool) (low : i < 16) (f : Fit (carAt (w .car
 
 -- ---- door commands
 
-abbrev Agrees : Bool → Tried → Type 0
-Agrees o t = Sound (t .phase) (t .door) o
+commands-sound : (c : Car) (at traversing : Bool) (o : Bool) → Sound (c .phase) (c .door) o
+    → Sound (processDoorCommands c at traversing .phase) (processDoorCommands c at traversing .door) o
+commands-sound c at traversing o = commands-keep (λ p d. Sound p d o) (λ a b. opening) (λ a. closing) (λ a b cd s. loading) c at traversing
 
-open-agrees : (c : Car) (at : Bool) (p : ElevatorPhase) (d : DoorState) (o : Bool) → Sound p d o → Agrees o (applyOpen p d c at)
-open-agrees c at p d o idle = both (Agrees false) at opening idle
-open-agrees c at p d o stopped = both (Agrees false) at opening stopped
-open-agrees c at p d o moving = moving
-open-agrees c at p d o repositioning = repositioning
-open-agrees c at p d o opening = opening
-open-agrees c at p d o loading = loading
-open-agrees c at p d o closing = opening
-
-close-agrees : (c : Car) (traversing : Bool) (p : ElevatorPhase) (d : DoorState) (o : Bool) → Sound p d o → Agrees o (applyClose p d c traversing)
-close-agrees c traversing p d o idle = idle
-close-agrees c traversing p d o stopped = stopped
-close-agrees c traversing p d o moving = moving
-close-agrees c traversing p d o repositioning = repositioning
-close-agrees c traversing p d o opening = opening
-close-agrees c traversing p d o (loading {o = b}) = both (Agrees b) traversing loading closing
-close-agrees c traversing p d o closing = closing
-
-hold-agrees : (ticks : ℕ) (p : ElevatorPhase) (d : DoorState) (o : Bool) → Sound p d o → Agrees o (applyHold p d ticks)
-hold-agrees ticks p d o idle = idle
-hold-agrees ticks p d o stopped = stopped
-hold-agrees ticks p d o moving = moving
-hold-agrees ticks p d o repositioning = repositioning
-hold-agrees ticks p d o opening = opening
-hold-agrees ticks p d o loading = loading
-hold-agrees ticks p d o closing = closing
-
-cancel-agrees : (c : Car) (p : ElevatorPhase) (d : DoorState) (o : Bool) → Sound p d o → Agrees o (applyCancelHold p d c)
-cancel-agrees c p d o idle = idle
-cancel-agrees c p d o stopped = stopped
-cancel-agrees c p d o moving = moving
-cancel-agrees c p d o repositioning = repositioning
-cancel-agrees c p d o opening = opening
-cancel-agrees c p d o loading = loading
-cancel-agrees c p d o closing = closing
-
-try-agrees : (q : DoorCommand) (c : Car) (at traversing : Bool) (p : ElevatorPhase) (d : DoorState) (o : Bool) → Sound p d o
-    → Agrees o (tryApplyCommand q p d c at traversing)
-try-agrees Command.Open c at traversing p d o s = open-agrees c at p d o s
-try-agrees Command.Close c at traversing p d o s = close-agrees c traversing p d o s
-try-agrees (Command.HoldOpen ticks) c at traversing p d o s = hold-agrees ticks p d o s
-try-agrees Command.CancelHold c at traversing p d o s = cancel-agrees c p d o s
-
-module _ (c : Car) (at traversing : Bool) (i : ℕ) (o : Bool) (sound : Sound (c .phase) (c .door) o) where
-  work-sound : (n : ℕ) → Sound (workTo c at traversing n .phase) (workTo c at traversing n .door) o
-  unfolding workTo
-  work-sound zero = sound
-  work-sound (suc n) =
-      let k : Work = workTo c at traversing n in
-      let q : QueuedCommand = queued c at traversing n in
-      let t : Tried = triedOn c at traversing k q in
-      let s : Agrees o t = try-agrees (q .command) c at traversing (k .phase) (k .door) o (work-sound n) in
-      both (λ (x : Work). Sound (x .phase) (x .door) o) (t .applied) s s
-
-  words-told : (n : ℕ) → Told i o o (workWordsTo c at traversing i n)
-  unfolding workWordsTo
-  words-told zero = told-none i o
-  words-told (suc n) =
-      let q : QueuedCommand = queued c at traversing n in
-      told-join (words-told n)
-      (both (Told i o o) (triedOn c at traversing (workTo c at traversing n) q .applied)
-      (told-dull i o 10 i (codeOf (q .command)) (ticksOf (q .command)) refl refl refl) (told-none i o))
+words-told : (c : Car) (at traversing : Bool) (i : ℕ) (o : Bool) (n : ℕ) → Told i o o (workWordsTo c at traversing i n)
+unfolding workWordsTo
+words-told c at traversing i o zero = told-none i o
+words-told c at traversing i o (suc n) =
+    let q : QueuedCommand = queued c at traversing n in
+    told-join (words-told c at traversing i o n)
+    (both (Told i o o) (triedOn c at traversing (workTo c at traversing n) q .applied)
+    (told-dull i o 10 i (codeOf (q .command)) (ticksOf (q .command)) refl refl refl) (told-none i o))
 
 -- ---- the door's tick
 
@@ -261,39 +205,24 @@ after-good p g = record { end = g .end; told = told-join p (g .told); fit = g .f
 
 door-turn : (i : ℕ) (low : i < 16) (c : Car) (at traversing : Bool) (next : StopOption) (o : Bool) → Fit c o
     → Good i o (doorTurn i c at traversing next .car) (doorTurn i c at traversing next .words)
-unfolding processDoorCommands commandWords
+unfolding commandWords
 door-turn i low c at traversing next o f =
+    let k : Work = processDoorCommands c at traversing in
     both (λ (t : Turn). Good i o (t .car) (t .words)) (c .enabled)
-    (after-good (words-told c at traversing i o (f .sound) (min (c .«command_count») 8))
-    (door-by i low c (f .tame) k next (k .phase) (k .door) o (work-sound c at traversing i o (f .sound) (min (c .«command_count») 8))))
+    (after-good (words-told c at traversing i o (min (c .«command_count») 8))
+    (door-by i low c (f .tame) k next (k .phase) (k .door) o (commands-sound c at traversing o (f .sound))))
     (still i o c f)
-  where
-    k : Work
-    k = workTo c at traversing (min (c .«command_count») 8)
 
 pub door-good : (w : World) (i : ℕ) (o : Bool) → i < 16 → Fit (carAt (w .cars) i) o → Good i o (doorOf w i .car) (doorOf w i .words)
 unfolding doorOf
 door-good w i o low f = door-turn i low (carAt (w .cars) i) _ _ _ o f
 
 -- no turn of the doors moves a car
-closing-stands : (next : StopOption) (i : ℕ) (c : Car) (k : Work) (d : DoorState) → finishedClosing next i c k d .car .motion ≡ c .motion
-closing-stands NoStop i c k d = refl
-closing-stands (Stop s) i c k d = refl
-
-finish-stands : (t : DoorTransition) (p : ElevatorPhase) (d : DoorState) (i : ℕ) (c : Car) (k : Work) (next : StopOption)
-    → finishBy t p d i c k next .car .motion ≡ c .motion
-finish-stands None p d i c k next = refl
-finish-stands FinishedOpening p d i c k next = refl
-finish-stands FinishedOpen p d i c k next = refl
-finish-stands FinishedClosing p d i c k next = closing-stands next i c k d
-
 turn-stands : (i : ℕ) (c : Car) (at traversing : Bool) (next : StopOption) → doorTurn i c at traversing next .car .motion ≡ c .motion
 turn-stands i c at traversing next =
-    let k : Work = processDoorCommands c at traversing in
-    both (λ (t : Turn). t .car .motion ≡ c .motion) (c .enabled)
-    (both (λ (t : Turn). t .car .motion ≡ c .motion) (stays (k .phase) (k .door) c) refl
-    (finish-stands (tick (k .door) .transition) (k .phase) (tick (k .door) .door) i c k next))
-    refl
+    let Stands : Turn → Type 0 = λ t. t .car .motion ≡ c .motion in
+    both Stands (c .enabled)
+    (door-cases Stands i c (processDoorCommands c at traversing) next (λ d. refl) (λ d. refl) (λ d. refl) (λ d. refl) (λ s d e. refl)) refl
 
 pub door-stands : (w : World) (i : ℕ) → doorOf w i .car .motion ≡ carAt (w .cars) i .motion
 unfolding doorOf

@@ -8,16 +8,11 @@ use lib.Dec.{eqb}
 use lib.ListN.{length, length-append}
 use lib.Ieee.{Float}
 use Rattle.motion.specs.declared.movement.MovementResult.{MovementResult}
-use Rattle.door.specs.Door.{tick}
-use Rattle.door.specs.declared.DoorState.{DoorState}
-use Rattle.door.specs.declared.DoorTransition.{DoorTransition}
-use Rattle.door.specs.declared.DoorTransition.the-variants.{None, FinishedOpening, FinishedOpen, FinishedClosing}
 use Rattle.world.specs.World.{carAt}
 use Rattle.world.specs.declared.World.{World}
 use Rattle.world.specs.declared.Car.{Car}
 use Rattle.world.specs.declared.QueuedCommand.{QueuedCommand}
 use Rattle.world.specs.declared.LineKind.{LineKind}
-use Rattle.world.specs.declared.ElevatorPhase.{ElevatorPhase}
 use Rattle.world.specs.declared.StopOption.{StopOption}
 use Rattle.world.specs.declared.StopOption.the-variants.{NoStop, Stop}
 use Rattle.log.specs.Words.{word, wordOf, codeOf, ticksOf}
@@ -36,7 +31,8 @@ use Rattle.movement_system.specs.Movement.{passedBy, passes, arrives, moveOf}
 use Rattle.movement_system.proofs.Cases.{move-cases}
 use Rattle.door_commands.specs.Commands.{queued, triedOn, workTo, workWordsTo, processDoorCommands, commandWords}
 use Rattle.doors_system.specs.Doors.{doorTurn, stepBy, turnOn, doorOf}
-use Rattle.door_ticks.specs.Ticks.{Turn, openedAt, departedFrom, finishedClosing, finishBy, stays, doorBy, after}
+use Rattle.door_ticks.specs.Ticks.{Turn, openedAt, departedFrom, doorBy, after}
+use Rattle.door_ticks.proofs.Cases.{door-cases}
 use Rattle.door_commands.specs.declared.Work.{Work}
 use Rattle.tick.specs.Counters.{isMove, movesIn}
 use Rattle.tick.proofs.Passed.{passed-fits}
@@ -195,29 +191,21 @@ pub record Shuts (c : Car) (room : ℕ) (t : Turn) : Type 0 where
 shuts : {n : ℕ} {t : Turn} (c : Car) (room : ℕ) → Quiet n (t .words) → n + 2 * ones (t .opened .stop) ≤ room → t .car .«move_count» ≡ c .«move_count» → Shuts c room t
 shuts c room q h e = record { size = omega (arith, q .size); none = q .none; count = e }
 
-module _ (i : ℕ) (c : Car) (k : Work) where
-  opened-most : (s : StopOption) → ones (openedAt s c .stop) ≤ 1
-  opened-most NoStop = omega arith
-  opened-most (Stop s) = omega arith
+opened-most : (s : StopOption) (c : Car) → ones (openedAt s c .stop) ≤ 1
+opened-most NoStop c = omega arith
+opened-most (Stop s) c = omega arith
 
-  departed-quiet : (s : StopOption) → Quiet 1 (departedFrom s i)
-  departed-quiet NoStop = quiet-more (omega arith) quiet-none
-  departed-quiet (Stop s) = quiet-one 8 i s 0 refl
+departed-quiet : (s : StopOption) (i : ℕ) → Quiet 1 (departedFrom s i)
+departed-quiet NoStop i = quiet-more (omega arith) quiet-none
+departed-quiet (Stop s) i = quiet-one 8 i s 0 refl
 
-  closing-shuts : (next : StopOption) (door : DoorState) → Shuts c 3 (finishedClosing next i c k door)
-  closing-shuts NoStop door = shuts c 3 (quiet-join (quiet-one 7 i 0 0 refl) (lamps-quiet i (lampsOf c) bothLit)) (omega arith) refl
-  closing-shuts (Stop s) door =
-      shuts c 3 (quiet-join (quiet-one 7 i 0 0 refl) (quiet-join (lamps-quiet i (lampsOf c) unlit) (departed-quiet (c .«target_stop»)))) (omega arith) refl
-
-  finish-shuts : (t : DoorTransition) (phase : ElevatorPhase) (door : DoorState) (next : StopOption) → Shuts c 3 (finishBy t phase door i c k next)
-  finish-shuts FinishedOpening phase door next = shuts c 3 (quiet-one 6 i 0 0 refl) (omega (arith, opened-most (c .«target_stop»))) refl
-  finish-shuts FinishedOpen phase door next = shuts c 3 quiet-none (omega arith) refl
-  finish-shuts FinishedClosing phase door next = closing-shuts next door
-  finish-shuts None phase door next = shuts c 3 quiet-none (omega arith) refl
-
-  door-shuts : (phase : ElevatorPhase) (door : DoorState) (next : StopOption) → Shuts c 3 (doorBy phase door i c k next)
-  door-shuts phase door next =
-      both (Shuts c 3) (stays phase door c) (shuts c 3 quiet-none (omega arith) refl) (finish-shuts (tick door .transition) phase (tick door .door) next)
+door-shuts : (i : ℕ) (c : Car) (k : Work) (next : StopOption) → Shuts c 3 (doorBy (k .phase) (k .door) i c k next)
+door-shuts i c k next =
+    door-cases (Shuts c 3) i c k next (λ d. shuts c 3 quiet-none (omega arith) refl)
+    (λ d. shuts c 3 (quiet-one 6 i 0 0 refl) (omega (arith, opened-most (c .«target_stop») c)) refl)
+    (λ d. shuts c 3 quiet-none (omega arith) refl)
+    (λ d. shuts c 3 (quiet-join (quiet-one 7 i 0 0 refl) (lamps-quiet i (lampsOf c) bothLit)) (omega arith) refl)
+    (λ s d e. shuts c 3 (quiet-join (quiet-one 7 i 0 0 refl) (quiet-join (lamps-quiet i (lampsOf c) unlit) (departed-quiet (c .«target_stop») i))) (omega arith) refl)
 
 after-shuts : {c : Car} {ws : List ℕ} (t : Turn) → Quiet 8 ws → Shuts c 3 t → Shuts c 11 (after ws t)
 after-shuts {c} {ws} t q h = record {
@@ -231,7 +219,7 @@ unfolding movesIn
 turn-shuts i c atStop traversing next =
     let k : Work = processDoorCommands c atStop traversing in
     both (Shuts c 11) (c .enabled)
-    (after-shuts (doorBy (k .phase) (k .door) i c k next) (commands-quiet c atStop traversing i) (door-shuts i c k (k .phase) (k .door) next))
+    (after-shuts (doorBy (k .phase) (k .door) i c k next) (commands-quiet c atStop traversing i) (door-shuts i c k next))
     (record { size = omega arith; none = refl; count = refl })
 
 step-fair : (w : World) (c : Car) (t : Turn) → Shuts c 11 t → Fair 11 0 (w .«total_moves») c (stepBy w t)
