@@ -1,6 +1,6 @@
 -- A car that comes to its stop: systems/movement.rs, run's `if result.arrived`.
 use mathlib.Core.Bool.{Bool, true, false, not, _&&_, cond}
-use mathlib.Core.List.{List, [], _∷_, _++_}
+use mathlib.Core.List.{List, [], _∷_}
 use Prim.Native.Nat.{ℕ, zero, suc, _-_, min}
 use lib.Dec.{ltb, eqb}
 use lib.ListN.{getD}

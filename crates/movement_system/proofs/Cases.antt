@@ -14,7 +14,7 @@ use Rattle.steps.specs.Steps.{Step, stepOf, notOpened}
 use Rattle.trips.specs.Trips.{tripOf, isTrip}
 use Rattle.trips.specs.declared.Trip.{Trip}
 use Rattle.trips.specs.declared.Trip.the-variants.{Rests, Drives, GoesTo, Repositions}
-use Rattle.movement_system.specs.Movement.{passes, arrives, turnBy, moveOf}
+use Rattle.movement_system.specs.Movement.{passes, arrives, moveBy, moveOf}
 
 module _
     (P : Step → Type 0)
@@ -25,7 +25,7 @@ module _
     (arriving : isTrip (tripOf (carAt (w .cars) i)) ≡ true → (s : ℕ) (kind : LineKind) (r : MovementResult) (lamps : Lamps) → P (arrives w i (GoesTo s) kind r lamps))
     (repositioned : isTrip (tripOf (carAt (w .cars) i)) ≡ true → (s : ℕ) (kind : LineKind) (r : MovementResult) (lamps : Lamps) → P (arrives w i (Repositions s) kind r lamps))
   where
-    by : (trip : Trip) → isTrip (tripOf (carAt (w .cars) i)) ≡ isTrip trip → (kind : LineKind) (r : MovementResult) (lamps : Lamps) → P (turnBy w i trip kind r lamps)
+    by : (trip : Trip) → isTrip (tripOf (carAt (w .cars) i)) ≡ isTrip trip → (kind : LineKind) (r : MovementResult) (lamps : Lamps) → P (moveBy w i trip kind r lamps)
     by Rests e kind r lamps = rests
     by Drives e kind r lamps = passing e Drives kind r
     by (GoesTo s) e kind r lamps = both P (r .arrived) (arriving e s kind r lamps) (passing e (GoesTo s) kind r)

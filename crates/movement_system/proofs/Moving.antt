@@ -1,5 +1,5 @@
 -- The cars' turns: what a turn of the code is in the world so far. Assumes nothing.
-use mathlib.Core.Path.{_≡_, refl, sym, ap, _∙_}
+use mathlib.Core.Path.{_≡_, refl, ap, _∙_}
 use mathlib.Core.Bool.{true, false, cond}
 use mathlib.Core.Logic.{_⊎_, ⊎-elim}
 use mathlib.Core.List.{List, [], _∷_, _++_}
@@ -35,7 +35,7 @@ use Rattle.landing.specs.Landing.{leaderOf, landing}
 use Rattle.arrival.specs.Arrival.{asksWork, workOf}
 use Rattle.trips.specs.declared.Trip.{Trip}
 use Rattle.trips.specs.declared.Trip.the-variants.{Rests, Drives, GoesTo, Repositions}
-use Rattle.movement_system.specs.Movement.{passes, arrives, turnBy, moveOf, moved}
+use Rattle.movement_system.specs.Movement.{passes, arrives, moveBy, moveOf, moved}
 use Rattle.movement_system.specs.Parts.{wordsBy, movesBy, Tells}
 use Rattle.moves.specs.Moves.{comes, come, distanceBy}
 use Rattle.movement_system.specs.declared.Emitted.{Emitted}
@@ -82,7 +82,7 @@ pub moves : (dt : Float) (w : World) (i : ℕ) (trip : Trip) (kind : LineKind) (
     → r ≡ landing trip kind leader (carAt (w .cars) i) (w .stops) dt
     → ((asksWork trip kind (r .arrived) ≡ false) × (lamps ≡ lampsOf (carAt (w .cars) i)))
     ⊎ ((asksWork trip kind (r .arrived) ≡ true) × (lamps ≡ workOf trip (w .riders) (w .«rider_count») (carAt (w .cars) i) (w .stops) i))
-    → moveOf dt w i ≡ turnBy w i trip kind r lamps
+    → moveOf dt w i ≡ moveBy w i trip kind r lamps
 unfolding moveOf
 moves dt w i trip kind leader r lamps et ek lead er wk =
     let c = carAt (w .cars) i in

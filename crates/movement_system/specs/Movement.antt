@@ -20,7 +20,7 @@ use Rattle.arrival.specs.Arrival.{asksWork, workOf}
 use Rattle.moves.specs.Moves.{comes, goal, swept, comingWords, come, distanceBy}
 use Rattle.movement_system.specs.Passing.{passed, passingWords}
 
--- ---- the turn of car i of world w: its trip (run's first tests), its line's kind, its landing r
+-- ---- the turn of car i of world w: by its trip (run's first tests), its line's kind and its landing r
 
 -- the stops passed on the way from its old place, of the sort of the first n
 abbrev pub passedBy : Trip → LineKind → List Float → ℕ → Float → MovementResult → List ℕ
@@ -51,9 +51,9 @@ arrives w i trip kind r lamps =
       opened = notOpened;
     }
 
--- a car without a trip is left as it is
-abbrev pub turnBy : World → ℕ → Trip → LineKind → MovementResult → Lamps → Step
-turnBy w i trip kind r lamps =
+-- by run's first tests: a car without a trip is left as it is
+abbrev pub moveBy : World → ℕ → Trip → LineKind → MovementResult → Lamps → Step
+moveBy w i trip kind r lamps =
     cond
     (isTrip trip)
     (cond (comes trip (r .arrived)) (arrives w i trip kind r lamps) (passes w i trip kind r))
@@ -61,6 +61,7 @@ turnBy w i trip kind r lamps =
 
 -- ---- run
 
+-- for one car: its first tests, its landing, and its lamps should it arrive
 unfoldable pub moveOf : Float → World → ℕ → Step
 moveOf dt w i =
     let c = carAt (w .cars) i in
@@ -68,7 +69,7 @@ moveOf dt w i =
     let kind = lineOf (w .lines) (c .line) .kind in
     let r = landing trip kind (leaderOf kind (w .cars) (w .«car_count») i c) c (w .stops) dt in
     let lamps = cond (asksWork trip kind (r .arrived)) (workOf trip (w .riders) (w .«rider_count») c (w .stops) i) (lampsOf c) in
-    turnBy w i trip kind r lamps
+    moveBy w i trip kind r lamps
 
 unfoldable pub moved : World → Float → Run
 moved w dt = runCars (moveOf dt) w
