@@ -1,6 +1,6 @@
 -- A car that comes to its stop: systems/movement.rs, run's `if result.arrived`.
 use mathlib.Core.Bool.{Bool, true, false, not, _&&_, cond}
-use mathlib.Core.List.{List, [], _∷_, _++_}
+use mathlib.Core.List.{List, [], _∷_}
 use Prim.Native.Nat.{ℕ, zero, suc, _-_, min}
 use lib.Dec.{ltb, eqb}
 use lib.ListN.{getD}
@@ -11,7 +11,6 @@ use Rattle.world.specs.declared.Rider.{Rider}
 use Rattle.world.specs.declared.CarOption.{CarOption}
 use Rattle.world.specs.declared.CarOption.the-variants.{NoCar, OfCar}
 use Rattle.world.specs.declared.LineKind.{LineKind}
-use Rattle.world.specs.declared.LineKind.the-variants.{Linear, Loop}
 use Rattle.world.specs.declared.StopOption.{StopOption}
 use Rattle.world.specs.declared.StopOption.the-variants.{NoStop, Stop}
 use Rattle.steps.specs.Steps.{bothLit, unlit, lampsOf}
@@ -82,12 +81,7 @@ workOf Drives riders count c stops i = lampsOf c
 workOf (GoesTo s) riders count c stops i = directionFromRemainingWork riders count (popped c s) stops i (stopAt stops s)
 workOf (Repositions s) riders count c stops i = lampsOf c
 
--- "Loop cars don't carry up/down lamps": theirs stay as they are. `work` is what direction_from_remaining_work answers
-abbrev pub arrivalLamps : LineKind → Lamps → Car → Lamps
-arrivalLamps Linear work c = work
-arrivalLamps (Loop circumference headway) work c = lampsOf c
-
--- whether a turn uses `work`: it comes to a stop of a linear line
+-- whether a turn asks for it: the car comes to its stop, and "Loop cars don't carry up/down lamps": theirs stay as they are
 abbrev pub asksWork : Trip → LineKind → Bool → Bool
 asksWork Rests kind arrived = false
 asksWork Drives kind arrived = false

@@ -2,7 +2,7 @@
 use mathlib.Core.Path.{_≡_, refl, _∙_}
 use mathlib.Core.Bool.{Bool, true, false}
 use mathlib.Core.List.{List, _++_, append-nil, append-assoc}
-use Prim.Native.Nat.{ℕ, zero, suc, _+_, _<_, _≤_}
+use Prim.Native.Nat.{ℕ, _+_, _<_, _≤_}
 use native.Mathlib.Omega.{arith}
 use lib.Dec.{eqb}
 use lib.ListN.{length, set, length-set}
@@ -12,6 +12,7 @@ use Rattle.world.specs.World.{carAt, noCar}
 use Rattle.world.specs.declared.World.{World}
 use Rattle.world.specs.declared.Car.{Car}
 use Rattle.steps.specs.Steps.{Step, Run, ran, runTo}
+use Rattle.steps.proofs.Cars.{by-turns}
 use Rattle.tick.specs.Counters.{movesIn, sumTo}
 use Rattle.certificate.proofs.Watch.{openAfter, Calm, open-append, calm-append, Told}
 use Rattle.certificate.proofs.Turns.{Fit, Good}
@@ -106,5 +107,6 @@ module _
 
     pub run-ran : Held (w .cars) (w .«car_count») log → (k : ℕ) → k ≤ w .«car_count» → Ran Keep w log (runTo turn w k)
     unfolding runTo
-    run-ran h zero l = record { held = rw (append-nil log) h; count = refl; keeps = λ j. same (carAt (w .cars) j) }
-    run-ran h (suc k) l = run-step (runTo turn w k) k l (run-ran h k (omega arith))
+    run-ran h =
+        by-turns turn w (λ k. Ran Keep w log) (w .«car_count») (record { held = rw (append-nil log) h; count = refl; keeps = λ j. same (carAt (w .cars) j) })
+        (λ k. run-step (runTo turn w k) k)

@@ -43,7 +43,7 @@ rests-then a b c p q h = q (rw (p h) h) ∙ p h
 moved-ran : (w : World) (dt : Float) (log : List ℕ) → Held (w .cars) (w .«car_count») log → Ran Rests w log (moved w dt)
 unfolding moved runCars
 moved-ran w dt log h =
-    run-ran (moveOf dt) Rests (λ c e. refl) rests-then (λ v i o l f. move-good dt v i o l f) (λ v i o l f. move-rests dt v i o l f) w log h
+    run-ran (moveOf dt) Rests (λ c e. refl) rests-then (λ v i o l f. move-good v i o l f dt) (λ v i o l f. move-rests v i o l f dt) w log h
     (min (w .«car_count») 16) (omega arith)
 
 -- a car stays where it is

@@ -1,5 +1,5 @@
 -- A car's turn in either system keeps what the third condition needs of the car. Assumes nothing.
-use mathlib.Core.Path.{_≡_, refl, sym, _∙_}
+use mathlib.Core.Path.{_≡_, refl, sym, ap, _∙_}
 use mathlib.Core.Bool.{Bool, true, false, _&&_, Bool·beq}
 use mathlib.Core.List.{List, [], _∷_, _++_}
 use Prim.Native.Nat.{ℕ, zero, suc, _+_, _-_, _*_, _<_, min}
@@ -7,14 +7,10 @@ use lib.Dec.{leb}
 use lib.Ieee.{Float}
 use Rattle.motion.specs.declared.movement.MovementResult.{MovementResult}
 use Rattle.laws.proofs.Bools.{yes, no}
-use Rattle.door.specs.Door.{isClosed, tick}
+use Rattle.door.specs.Door.{isClosed}
 use Rattle.door.specs.declared.Ticked.{Ticked}
 use Rattle.door.specs.declared.DoorState.{DoorState}
 use Rattle.door.specs.declared.DoorState.the-variants.{Closed, Opening, Open, Closing}
-use Rattle.door.specs.declared.DoorTransition.{DoorTransition}
-use Rattle.door.specs.declared.DoorTransition.the-variants.{None, FinishedOpening, FinishedOpen, FinishedClosing}
-use Rattle.door.specs.declared.DoorCommand.{DoorCommand}
-use Rattle.door.specs.declared.DoorCommand.the-variants as Command
 use Rattle.world.specs.World.{carAt}
 use Rattle.world.specs.declared.World.{World}
 use Rattle.world.specs.declared.Car.{Car}
@@ -26,23 +22,23 @@ use Rattle.world.specs.declared.StopOption.{StopOption}
 use Rattle.world.specs.declared.StopOption.the-variants.{NoStop, Stop}
 use Rattle.log_words.specs.Words.{codeOf, ticksOf}
 use Rattle.laws.specs.Numbers.{bit}
-use Rattle.steps.specs.Steps.{isManual, isInspection, lineOf, lampsOf, bothLit, unlit, updateIndicators, Step}
+use Rattle.steps.specs.Steps.{isManual, isInspection, lampsOf, bothLit, unlit, updateIndicators, Step}
 use Rattle.world.specs.declared.Lamps.{Lamps}
-use Rattle.trips.specs.Trips.{tripBy, tripOf, travelled, distanceAfter}
-use Rattle.trips.specs.Spans.{spanOf, movingUp}
-use Rattle.landing.specs.Landing.{leaderOf, landing}
-use Rattle.arrival.specs.Arrival.{arrivalLamps, workOf}
+use Rattle.trips.specs.Trips.{tripBy, tripOf, isTrip}
+use Rattle.trips.specs.Spans.{movingUp}
 use Rattle.trips.specs.declared.Trip.{Trip}
-use Rattle.trips.specs.declared.Trip.the-variants.{Rests, GoesTo, Repositions}
+use Rattle.trips.specs.declared.Trip.the-variants.{GoesTo, Repositions}
 use Rattle.movement_system.specs.Passing.{passingWords}
 use Rattle.movement_system.specs.Movement as Movement
-use Rattle.movement_system.specs.Movement.{passedOver, moveOf}
-use Rattle.door_commands.specs.Commands.{applyOpen, applyClose, applyHold, applyCancelHold, tryApplyCommand, queued, triedOn, workTo, workWordsTo, processDoorCommands, commandWords}
+use Rattle.movement_system.specs.Movement.{moveOf}
+use Rattle.movement_system.proofs.Cases.{move-cases}
+use Rattle.door_commands.specs.Commands.{queued, triedOn, workTo, workWordsTo, processDoorCommands, commandWords}
+use Rattle.door_commands.proofs.Keeping.{commands-keep}
 use Rattle.doors_system.specs.Doors.{doorTurn, doorOf}
-use Rattle.door_ticks.specs.Ticks.{Turn, departedFrom, finishedOpening, finishedClosing, finishBy, stays, rests, doorBy}
-use Rattle.door_commands.specs.declared.Tried.{Tried}
+use Rattle.door_ticks.specs.Ticks.{Turn, departedFrom, finishedOpening, finishedClosing, finishBy, rests, doorBy}
+use Rattle.door_ticks.proofs.Cases.{door-cases}
 use Rattle.door_commands.specs.declared.Work.{Work}
-use Rattle.laws.proofs.Choices.{both, cases}
+use Rattle.laws.proofs.Choices.{both}
 use Rattle.certificate.proofs.Watch.{Told, told-none, told-join, told-dull, told-word}
 
 -- phase and door agree, and where the door is closed the log says so too
@@ -82,157 +78,80 @@ passing-told i up [] low = told-none i false
 passing-told i up (s ∷ ss) low = told-join (told-word i low 1 s (bit up) (λ _. refl) refl) (passing-told i up ss low)
 
 -- a car that makes a trip has a closed door, by the log too
-data Suited : Trip → DoorState → Bool → Type 0 where
-  resting : {d : DoorState} {o : Bool} → Suited Rests d o
-  going : {s : ℕ} → Suited (GoesTo s) Closed false
-  repositions : {s : ℕ} → Suited (Repositions s) Closed false
+abbrev Shut : DoorState → Bool → Trip → Type 0
+Shut d o trip = isTrip trip ≡ true → (d ≡ Closed) × (o ≡ false)
 
-suited-by : (p : ElevatorPhase) (d : DoorState) (o : Bool) → Sound p d o → Suited (tripBy p) d o
-suited-by p d o idle = resting
-suited-by p d o stopped = resting
-suited-by p d o moving = going
-suited-by p d o repositioning = repositions
-suited-by p d o opening = resting
-suited-by p d o loading = resting
-suited-by p d o closing = resting
+shut-by : (p : ElevatorPhase) (d : DoorState) (o : Bool) → Sound p d o → Shut d o (tripBy p)
+shut-by p d o idle h = no h
+shut-by p d o stopped h = no h
+shut-by p d o moving h = (refl, refl)
+shut-by p d o repositioning h = (refl, refl)
+shut-by p d o opening h = no h
+shut-by p d o loading h = no h
+shut-by p d o closing h = no h
 
-suited : (c : Car) (o : Bool) → Fit c o → Suited (tripOf c) (c .door) o
-suited c o f =
-    both (λ (t : Trip). Suited t (c .door) o) (c .enabled)
-    (cases (λ (t : Trip). Suited t (c .door) o) (isManual (c .«service_mode»)) (λ (h : isManual (c .«service_mode») ≡ true). yes (sym h ∙ f .tame))
-    (λ h. suited-by (c .phase) (c .door) o (f .sound)))
-    resting
+shut : (c : Car) (o : Bool) → Fit c o → Shut (c .door) o (tripOf c)
+shut c o f =
+    both (Shut (c .door) o) (c .enabled)
+    (rw (f .tame) (shut-by (c .phase) (c .door) o (f .sound)))
+    (λ h. no h)
 
-module _ (i : ℕ) (low : i < 16) (kind : LineKind) (stops : List Float) (n tick total : ℕ) (c : Car) (r : MovementResult) where
-  abbrev Moves : Bool → Step → Type 0
-  Moves o s = Good i o (s .car) (s .words)
-
-  pass-good : (distance : Float) (ss : List ℕ) → Fit c false → Moves false (Movement.passOf i kind total c r distance ss)
-  pass-good distance ss f = record { end = false; told = passing-told i (movingUp kind (c .motion .position) (r .position)) ss low; fit = record { sound = f .sound; tame = f .tame } }
-
-  arrived-good : (distance : Float) (s : ℕ) (lamps : Lamps) → Fit c false → Moves false (Movement.arrivedOf i total c r distance s lamps)
-  arrived-good distance s lamps f = record {
-    end = false;
-    told = told-join (told-word i low 2 s 0 (λ _. refl) refl) (lamps-told i false (lampsOf c) lamps);
-    fit = record { sound = opening; tame = f .tame };
-  }
-
-  repositioned-good : (distance : Float) (s : ℕ) → c .door ≡ Closed → Fit c false → Moves false (Movement.repositionedOf i tick total c r distance s)
-  repositioned-good distance s e f = record {
-    end = false;
-    told =
-        told-join (told-word i low 3 s 0 (λ _. refl) refl)
-        (told-join (told-dull i false 4 i s 0 refl refl refl) (lamps-told i false (lampsOf c) bothLit));
-    fit = record { sound = rw e idle; tame = f .tame };
-  }
-
-  turn-good : (trip : Trip) (d : DoorState) (o : Bool) (distance : Float) (work : Lamps) → Suited trip d o → c .door ≡ d → Fit c o
-      → Moves o (Movement.turnBy trip i kind stops n tick total distance c r work)
-  turn-good trip d o distance work resting e f = still i o c f
-  turn-good trip d o distance work (going {s}) e f =
-      both (Moves false) (r .arrived) (arrived-good distance s (arrivalLamps kind work c) f)
-      (pass-good distance (passedOver (spanOf kind (c .motion .position) (r .position)) stops n (Stop s)) f)
-  turn-good trip d o distance work (repositions {s}) e f =
-      let far : Float = distanceAfter distance (travelled kind (c .motion .position) (r .position)) in
-      both (Moves false) (r .arrived) (repositioned-good far s e f)
-      (pass-good far (passedOver (spanOf kind (c .motion .position) (r .position)) stops n (Stop s)) f)
-
-  -- a car whose door is not closed is left as it is
-  turn-rests : (trip : Trip) (d : DoorState) (o : Bool) (distance : Float) (work : Lamps) → Suited trip d o → isClosed d ≡ false
-      → Movement.turnBy trip i kind stops n tick total distance c r work .car ≡ c
-  turn-rests trip d o distance work resting h = refl
-  turn-rests trip d o distance work going h = yes h
-  turn-rests trip d o distance work repositions h = yes h
-
-module _ (dt : Float) (w : World) (i : ℕ) (o : Bool) (low : i < 16) (f : Fit (carAt (w .cars) i) o) where
+module _ (w : World) (i : ℕ) (o : Bool) (low : i < 16) (f : Fit (carAt (w .cars) i) o) where
   abbrev c : Car
   c = carAt (w .cars) i
 
-  abbrev kind : LineKind
-  kind = lineOf (w .lines) (c .line) .kind
+  abbrev Moves : Step → Type 0
+  Moves s = Good i o (s .car) (s .words)
 
-  abbrev land : MovementResult
-  land = landing (tripOf c) kind (leaderOf kind (w .cars) (w .«car_count») i c) c (w .stops) dt
+  pass-good : isTrip (tripOf c) ≡ true → (trip : Trip) (kind : LineKind) (r : MovementResult) → Moves (Movement.passes w i trip kind r)
+  pass-good e trip kind r =
+      rw (shut c o f e .1)
+      (record { end = false; told = passing-told i (movingUp kind (c .motion .position) (r .position)) _ low; fit = record { sound = rw (shut c o f e .1) at (f .sound); tame = f .tame } })
 
-  pub move-good : Good i o (moveOf dt w i .car) (moveOf dt w i .words)
-  unfolding moveOf
-  move-good =
-      turn-good i low kind (w .stops) (min (w .«stop_count») 64) (w .ticks) (w .«total_moves») c land (tripOf c) (c .door) o (w .«reposition_distance»)
-      (workOf (tripOf c) (w .riders) (w .«rider_count») c (w .stops) i) (suited c o f) refl f
+  arrived-good : isTrip (tripOf c) ≡ true → (s : ℕ) (kind : LineKind) (r : MovementResult) (lamps : Lamps) → Moves (Movement.arrives w i (GoesTo s) kind r lamps)
+  arrived-good e s kind r lamps =
+      rw (shut c o f e .1)
+      (record {
+        end = false;
+        told = told-join (told-word i low 2 s 0 (λ _. refl) refl) (lamps-told i false (lampsOf c) lamps);
+        fit = record { sound = opening; tame = f .tame };
+      })
 
-  pub move-rests : isClosed (c .door) ≡ false → moveOf dt w i .car ≡ c
-  unfolding moveOf
-  move-rests =
-      turn-rests i low kind (w .stops) (min (w .«stop_count») 64) (w .ticks) (w .«total_moves») c land (tripOf c) (c .door) o (w .«reposition_distance»)
-      (workOf (tripOf c) (w .riders) (w .«rider_count») c (w .stops) i) (suited c o f)
+  repositioned-good : isTrip (tripOf c) ≡ true → (s : ℕ) (kind : LineKind) (r : MovementResult) (lamps : Lamps)
+      → Moves (Movement.arrives w i (Repositions s) kind r lamps)
+  repositioned-good e s kind r lamps =
+      rw (shut c o f e .1)
+      (record {
+        end = false;
+        told =
+            told-join (told-word i low 3 s 0 (λ _. refl) refl)
+            (told-join (told-dull i false 4 i s 0 refl refl refl) (lamps-told i false (lampsOf c) bothLit));
+        fit = record { sound = rw (shut c o f e .0) idle; tame = f .tame };
+      })
+
+  pub move-good : (dt : Float) → Good i o (moveOf dt w i .car) (moveOf dt w i .words)
+  move-good = move-cases Moves w i (still i o c f) pass-good arrived-good repositioned-good
+
+  -- a car whose door is not closed is left as it is
+  pub move-rests : (dt : Float) → isClosed (c .door) ≡ false → moveOf dt w i .car ≡ c
+  move-rests dt h =
+      let no-trip : isTrip (tripOf c) ≡ true → ⊥ = λ e. yes (ap isClosed (sym (shut c o f e .0)) ∙ h) in
+      move-cases (λ s. s .car ≡ c) w i refl (λ e trip kind r. absurd (no-trip e)) (λ e s kind r lamps. absurd (no-trip e)) (λ e s kind r lamps. absurd (no-trip e)) dt
 
 -- ---- door commands
 
-abbrev Agrees : Bool → Tried → Type 0
-Agrees o t = Sound (t .phase) (t .door) o
+commands-sound : (c : Car) (at traversing : Bool) (o : Bool) → Sound (c .phase) (c .door) o
+    → Sound (processDoorCommands c at traversing .phase) (processDoorCommands c at traversing .door) o
+commands-sound c at traversing o = commands-keep (λ p d. Sound p d o) (λ a b. opening) (λ a. closing) (λ a b cd s. loading) c at traversing
 
-open-agrees : (c : Car) (at : Bool) (p : ElevatorPhase) (d : DoorState) (o : Bool) → Sound p d o → Agrees o (applyOpen p d c at)
-open-agrees c at p d o idle = both (Agrees false) at opening idle
-open-agrees c at p d o stopped = both (Agrees false) at opening stopped
-open-agrees c at p d o moving = moving
-open-agrees c at p d o repositioning = repositioning
-open-agrees c at p d o opening = opening
-open-agrees c at p d o loading = loading
-open-agrees c at p d o closing = opening
-
-close-agrees : (c : Car) (traversing : Bool) (p : ElevatorPhase) (d : DoorState) (o : Bool) → Sound p d o → Agrees o (applyClose p d c traversing)
-close-agrees c traversing p d o idle = idle
-close-agrees c traversing p d o stopped = stopped
-close-agrees c traversing p d o moving = moving
-close-agrees c traversing p d o repositioning = repositioning
-close-agrees c traversing p d o opening = opening
-close-agrees c traversing p d o (loading {o = b}) = both (Agrees b) traversing loading closing
-close-agrees c traversing p d o closing = closing
-
-hold-agrees : (ticks : ℕ) (p : ElevatorPhase) (d : DoorState) (o : Bool) → Sound p d o → Agrees o (applyHold p d ticks)
-hold-agrees ticks p d o idle = idle
-hold-agrees ticks p d o stopped = stopped
-hold-agrees ticks p d o moving = moving
-hold-agrees ticks p d o repositioning = repositioning
-hold-agrees ticks p d o opening = opening
-hold-agrees ticks p d o loading = loading
-hold-agrees ticks p d o closing = closing
-
-cancel-agrees : (c : Car) (p : ElevatorPhase) (d : DoorState) (o : Bool) → Sound p d o → Agrees o (applyCancelHold p d c)
-cancel-agrees c p d o idle = idle
-cancel-agrees c p d o stopped = stopped
-cancel-agrees c p d o moving = moving
-cancel-agrees c p d o repositioning = repositioning
-cancel-agrees c p d o opening = opening
-cancel-agrees c p d o loading = loading
-cancel-agrees c p d o closing = closing
-
-try-agrees : (q : DoorCommand) (c : Car) (at traversing : Bool) (p : ElevatorPhase) (d : DoorState) (o : Bool) → Sound p d o
-    → Agrees o (tryApplyCommand q p d c at traversing)
-try-agrees Command.Open c at traversing p d o s = open-agrees c at p d o s
-try-agrees Command.Close c at traversing p d o s = close-agrees c traversing p d o s
-try-agrees (Command.HoldOpen ticks) c at traversing p d o s = hold-agrees ticks p d o s
-try-agrees Command.CancelHold c at traversing p d o s = cancel-agrees c p d o s
-
-module _ (c : Car) (at traversing : Bool) (i : ℕ) (o : Bool) (sound : Sound (c .phase) (c .door) o) where
-  work-sound : (n : ℕ) → Sound (workTo c at traversing n .phase) (workTo c at traversing n .door) o
-  unfolding workTo
-  work-sound zero = sound
-  work-sound (suc n) =
-      let k : Work = workTo c at traversing n in
-      let q : QueuedCommand = queued c at traversing n in
-      let t : Tried = triedOn c at traversing k q in
-      let s : Agrees o t = try-agrees (q .command) c at traversing (k .phase) (k .door) o (work-sound n) in
-      both (λ (x : Work). Sound (x .phase) (x .door) o) (t .applied) s s
-
-  words-told : (n : ℕ) → Told i o o (workWordsTo c at traversing i n)
-  unfolding workWordsTo
-  words-told zero = told-none i o
-  words-told (suc n) =
-      let q : QueuedCommand = queued c at traversing n in
-      told-join (words-told n)
-      (both (Told i o o) (triedOn c at traversing (workTo c at traversing n) q .applied)
-      (told-dull i o 10 i (codeOf (q .command)) (ticksOf (q .command)) refl refl refl) (told-none i o))
+words-told : (c : Car) (at traversing : Bool) (i : ℕ) (o : Bool) (n : ℕ) → Told i o o (workWordsTo c at traversing i n)
+unfolding workWordsTo
+words-told c at traversing i o zero = told-none i o
+words-told c at traversing i o (suc n) =
+    let q : QueuedCommand = queued c at traversing n in
+    told-join (words-told c at traversing i o n)
+    (both (Told i o o) (triedOn c at traversing (workTo c at traversing n) q .applied)
+    (told-dull i o 10 i (codeOf (q .command)) (ticksOf (q .command)) refl refl refl) (told-none i o))
 
 -- ---- the door's tick
 
@@ -286,39 +205,24 @@ after-good p g = record { end = g .end; told = told-join p (g .told); fit = g .f
 
 door-turn : (i : ℕ) (low : i < 16) (c : Car) (at traversing : Bool) (next : StopOption) (o : Bool) → Fit c o
     → Good i o (doorTurn i c at traversing next .car) (doorTurn i c at traversing next .words)
-unfolding processDoorCommands commandWords
+unfolding commandWords
 door-turn i low c at traversing next o f =
+    let k : Work = processDoorCommands c at traversing in
     both (λ (t : Turn). Good i o (t .car) (t .words)) (c .enabled)
-    (after-good (words-told c at traversing i o (f .sound) (min (c .«command_count») 8))
-    (door-by i low c (f .tame) k next (k .phase) (k .door) o (work-sound c at traversing i o (f .sound) (min (c .«command_count») 8))))
+    (after-good (words-told c at traversing i o (min (c .«command_count») 8))
+    (door-by i low c (f .tame) k next (k .phase) (k .door) o (commands-sound c at traversing o (f .sound))))
     (still i o c f)
-  where
-    k : Work
-    k = workTo c at traversing (min (c .«command_count») 8)
 
 pub door-good : (w : World) (i : ℕ) (o : Bool) → i < 16 → Fit (carAt (w .cars) i) o → Good i o (doorOf w i .car) (doorOf w i .words)
 unfolding doorOf
 door-good w i o low f = door-turn i low (carAt (w .cars) i) _ _ _ o f
 
 -- no turn of the doors moves a car
-closing-stands : (next : StopOption) (i : ℕ) (c : Car) (k : Work) (d : DoorState) → finishedClosing next i c k d .car .motion ≡ c .motion
-closing-stands NoStop i c k d = refl
-closing-stands (Stop s) i c k d = refl
-
-finish-stands : (t : DoorTransition) (p : ElevatorPhase) (d : DoorState) (i : ℕ) (c : Car) (k : Work) (next : StopOption)
-    → finishBy t p d i c k next .car .motion ≡ c .motion
-finish-stands None p d i c k next = refl
-finish-stands FinishedOpening p d i c k next = refl
-finish-stands FinishedOpen p d i c k next = refl
-finish-stands FinishedClosing p d i c k next = closing-stands next i c k d
-
 turn-stands : (i : ℕ) (c : Car) (at traversing : Bool) (next : StopOption) → doorTurn i c at traversing next .car .motion ≡ c .motion
 turn-stands i c at traversing next =
-    let k : Work = processDoorCommands c at traversing in
-    both (λ (t : Turn). t .car .motion ≡ c .motion) (c .enabled)
-    (both (λ (t : Turn). t .car .motion ≡ c .motion) (stays (k .phase) (k .door) c) refl
-    (finish-stands (tick (k .door) .transition) (k .phase) (tick (k .door) .door) i c k next))
-    refl
+    let Stands : Turn → Type 0 = λ t. t .car .motion ≡ c .motion in
+    both Stands (c .enabled)
+    (door-cases Stands i c (processDoorCommands c at traversing) next (λ d. refl) (λ d. refl) (λ d. refl) (λ d. refl) (λ s d e. refl)) refl
 
 pub door-stands : (w : World) (i : ℕ) → doorOf w i .car .motion ≡ carAt (w .cars) i .motion
 unfolding doorOf

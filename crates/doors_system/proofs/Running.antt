@@ -3,15 +3,15 @@ use mathlib.Core.Path.{_≡_, refl, sym, ap, _∙_}
 use mathlib.Core.Bool.{Bool, true, false, not, _&&_, _||_, cond, true≢false}
 use mathlib.Core.Logic.{_⊎_, ⊎-elim}
 use mathlib.Core.List.{List, []}
-use Prim.Native.Nat.{ℕ, zero, suc, _+_, _<_, _≤_}
+use Prim.Native.Nat.{ℕ, _+_, _<_, _≤_}
 use native.Mathlib.Numerals.{add-one}
 use native.Mathlib.Omega.{arith}
 use lib.Dec.{eqb}
 use lib.ListN.{getD, set, getD-replicate}
 use lib.Seq.{getD-set-other, set-getD}
 use borrow.Author.Tests.{eqb-true}
-use Rattle.world.specs.World.{carAt, noCar}
-use Rattle.world.specs.With.{withCars, withPeople}
+use Rattle.world.specs.World.{carAt}
+use Rattle.world.specs.With.{withPeople}
 use Rattle.world.specs.declared.World.{World}
 use Rattle.world.specs.declared.Car.{Car}
 use Rattle.world.specs.declared.Line.{Line}
@@ -20,6 +20,7 @@ use Rattle.next_stop.specs.NextStop.{loopNextStopForCar}
 use Rattle.log.specs.Log.{Wrote}
 use Rattle.log.proofs.Writing.{wrote-none, also}
 use Rattle.steps.specs.Steps.{Step, lineOf, lampsOf, notOpened, stepOf, stepped, runTo, runCars}
+use Rattle.steps.proofs.Cars.{by-turns, stepped-same}
 use Rattle.world.specs.With.{withDoor}
 use Rattle.steps.specs.declared.JustOpened.{JustOpened}
 use Rattle.door_commands.specs.Commands.{atStop, hasRiderTraversing, unworked, processDoorCommands, commandWords}
@@ -116,15 +117,11 @@ unfolding doorOf
 still-of w i h = ap (stepBy w) (still i (carAt (w .cars) i) _ _ _ h)
 
 -- nothing has opened where no car has had its turn
-unopened : (turn : World → ℕ → Step) (w : World) (i j : ℕ) → i ≤ j → j < 16 → getD (runTo turn w i .opened) j notOpened ≡ notOpened
+unopened : (turn : World → ℕ → Step) (w : World) (j : ℕ) → j < 16 → (i : ℕ) → i ≤ j → getD (runTo turn w i .opened) j notOpened ≡ notOpened
 unfolding runTo
-unopened turn w zero j h b = getD-replicate 16 j notOpened notOpened b
-unopened turn w (suc i) j h b =
-    getD-set-other (runTo turn w i .opened) i j (turn (runTo turn w i .world) i .opened) notOpened (λ (e : j ≡ i). omega (arith, e))
-    ∙ unopened turn w i j (omega arith) b
-
-stepped-same : (w : World) (i : ℕ) → w ≡ stepped w i (stepOf w (carAt (w .cars) i) [] notOpened)
-stepped-same w i = ap (λ (cars : List Car). withCars w cars (w .«car_count»)) (sym (set-getD (w .cars) i noCar))
+unopened turn w j b =
+    by-turns turn w (λ i r. getD (r .opened) j notOpened ≡ notOpened) j (getD-replicate 16 j notOpened notOpened b)
+    (λ i l p. getD-set-other (runTo turn w i .opened) i j (turn (runTo turn w i .world) i .opened) notOpened (λ (e : j ≡ i). omega (arith, e)) ∙ p)
 
 opened-same : (os : List JustOpened) (i : ℕ) → getD os i notOpened ≡ notOpened → os ≡ set os i notOpened
 opened-same os i e = sym (set-getD os i notOpened) ∙ ap (set os i) e
@@ -134,7 +131,7 @@ pub passed : {world w : World} {l l′ : List ℕ} {at i to : ℕ} {opened : Lis
     → Runs doorOf world l at (i + 1) w opened l′ to
 passed {world = world} {w = w} {i = i} {opened = opened} k b h =
     same (more (stepOf w (carAt (w .cars) i) [] notOpened) k (still-of w i h) wrote-none) refl (stepped-same w i)
-    (opened-same opened i (ap (λ (os : List JustOpened). getD os i notOpened) (k .opens) ∙ unopened doorOf world i i (omega arith) b)) refl
+    (opened-same opened i (ap (λ (os : List JustOpened). getD os i notOpened) (k .opens) ∙ unopened doorOf world i b i (omega arith))) refl
 
 -- all cars' turns, then the hall calls
 pub ended : {world w : World} {l l′ l″ : List ℕ} {at to : ℕ} {opened : List JustOpened} {r : Calls} → Runs doorOf world l at (carsOf world) w opened l′ to

@@ -1,5 +1,5 @@
 pub mod Counting
 pub mod Thresholds
 pub mod Emitting
-pub mod Parts
 pub mod Moving
+pub mod Cases

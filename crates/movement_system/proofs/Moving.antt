@@ -1,29 +1,30 @@
 -- The cars' turns: what a turn of the code is in the world so far. Assumes nothing.
-use mathlib.Core.Path.{_≡_, refl, sym, ap, _∙_}
-use mathlib.Core.Bool.{Bool, true, false}
+use mathlib.Core.Path.{_≡_, refl, ap, _∙_}
+use mathlib.Core.Bool.{true, false, cond}
 use mathlib.Core.Logic.{_⊎_, ⊎-elim}
 use mathlib.Core.List.{List, [], _∷_, _++_}
 use Prim.Native.Nat.{ℕ, zero, suc, _+_, _<_, _≤_, min}
 use native.Mathlib.Numerals.{add-one}
 use borrow.Author.Tests.{lt-ltb, le-ltb}
 use lib.ListN.{set}
-use lib.Seq.{set-getD}
 use lib.Ieee.{Float}
 use Rattle.motion.specs.declared.movement.MovementResult.{MovementResult}
 use Rattle.laws.proofs.Bools.{yes, no}
-use Rattle.world.specs.World.{carAt, lineAt, noCar}
+use Rattle.world.specs.World.{carAt, lineAt}
 use Rattle.world.specs.declared.World.{World}
 use Rattle.world.specs.declared.Car.{Car}
 use Rattle.world.specs.declared.Line.{Line}
 use Rattle.world.specs.declared.LineKind.{LineKind}
 use Rattle.world.specs.declared.LineKind.the-variants.{Linear, Loop}
 use Rattle.leader.specs.declared.LeaderOption.{LeaderOption}
+use Rattle.leader.specs.declared.LeaderOption.the-variants.{NoLeader, At}
 use Rattle.log.specs.Log.{Wrote}
 use Rattle.log.proofs.Writing.{also, wrote-none}
-use Rattle.steps.specs.Steps.{Step, lineOf, lampsOf, stepped, notOpened, runTo, runCars}
+use Rattle.steps.specs.Steps.{Step, lineOf, lampsOf, stepOf, stepped, notOpened, runTo, runCars}
 use Rattle.world.specs.With.{placed}
 use Rattle.laws.specs.Numbers.{plus}
 use Rattle.steps.specs.declared.JustOpened.{JustOpened}
+use Rattle.steps.proofs.Cars.{kept, stepped-same}
 use Rattle.doors_system.specs.Doors.{standing, doorsWorld, doorsWords}
 use Rattle.doors_system.proofs.Running.{Runs}
 use Rattle.hall_calls.specs.Clearing.{Standing, Clears, clearTo, clearWordsTo}
@@ -34,11 +35,10 @@ use Rattle.landing.specs.Landing.{leaderOf, landing}
 use Rattle.arrival.specs.Arrival.{asksWork, workOf}
 use Rattle.trips.specs.declared.Trip.{Trip}
 use Rattle.trips.specs.declared.Trip.the-variants.{Rests, Drives, GoesTo, Repositions}
-use Rattle.movement_system.specs.Movement.{turnBy, moveOf, moved}
-use Rattle.movement_system.specs.Parts.{wordsBy, movesBy, stepBy, Tells}
-use Rattle.moves.specs.Moves.{come, distanceBy}
+use Rattle.movement_system.specs.Movement.{passes, arrives, moveBy, moveOf, moved}
+use Rattle.movement_system.specs.Parts.{wordsBy, movesBy, Tells}
+use Rattle.moves.specs.Moves.{comes, come, distanceBy}
 use Rattle.movement_system.specs.declared.Emitted.{Emitted}
-use Rattle.movement_system.proofs.Parts.{result, own-lamps, work-lamps}
 
 -- ---- what is read in a turn
 
@@ -57,51 +57,40 @@ any-leader (GoesTo s) (Loop x y) l l′ c stops dt h = yes h
 any-leader (Repositions s) Linear l l′ c stops dt h = refl
 any-leader (Repositions s) (Loop x y) l l′ c stops dt h = yes h
 
+-- no Manual car arrives: whoever does comes to its stop
+came : (trip : Trip) (kind : LineKind) (l : LeaderOption) (c : Car) (stops : List Float) (dt : Float) → isTrip trip ≡ true
+    → comes trip (landing trip kind l c stops dt .arrived) ≡ landing trip kind l c stops dt .arrived
+came Rests kind l c stops dt t = no t
+came Drives Linear l c stops dt t = refl
+came Drives (Loop x y) NoLeader c stops dt t = refl
+came Drives (Loop x y) (At z) c stops dt t = refl
+came (GoesTo s) kind l c stops dt t = refl
+came (Repositions s) kind l c stops dt t = refl
+
 -- ---- the turn of a car
 
-abbrev at-rest : World → Car → Step
-at-rest w c = record { car = c; words = []; total = w .«total_moves»; distance = w .«reposition_distance»; opened = notOpened }
-
-resting : (trip : Trip) (i : ℕ) (kind : LineKind) (n : ℕ) (w : World) (c : Car) (r : MovementResult) (work : Lamps) → isTrip trip ≡ false
-    → turnBy trip i kind (w .stops) n (w .ticks) (w .«total_moves») (w .«reposition_distance») c r work ≡ at-rest w c
-resting Rests i kind n w c r work h = refl
-resting Drives i kind n w c r work h = yes h
-resting (GoesTo s) i kind n w c r work h = yes h
-resting (Repositions s) i kind n w c r work h = yes h
-
 -- of one at rest
-pub rests : (dt : Float) (w : World) (i : ℕ) (trip : Trip) → trip ≡ tripOf (carAt (w .cars) i) → isTrip trip ≡ false → moveOf dt w i ≡ at-rest w (carAt (w .cars) i)
+pub rests : (dt : Float) (w : World) (i : ℕ) (trip : Trip) → trip ≡ tripOf (carAt (w .cars) i) → isTrip trip ≡ false
+    → moveOf dt w i ≡ stepOf w (carAt (w .cars) i) [] notOpened
 unfolding moveOf
-rests dt w i trip et h =
-    let c = carAt (w .cars) i in
-    let kind = lineOf (w .lines) (c .line) .kind in
-    let k = resting trip i kind (min (w .«stop_count») 64) w c (landing trip kind (leaderOf kind (w .cars) (w .«car_count») i c) c (w .stops) dt)
-    (workOf trip (w .riders) (w .«rider_count») c (w .stops) i) h in
-    rw (← et) k
+rests dt w i trip et h = rw (← et, h)
 
 -- by the leader and the remaining work, where they were looked for
-pub moves : (dt : Float) (w : World) (i n : ℕ) (trip : Trip) (kind : LineKind) (leader : LeaderOption) (r : MovementResult) (lamps : Lamps)
-    → n ≡ min (w .«stop_count») 64 → trip ≡ tripOf (carAt (w .cars) i) → isTrip trip ≡ true
-    → kind ≡ lineOf (w .lines) (carAt (w .cars) i .line) .kind
+pub moves : (dt : Float) (w : World) (i : ℕ) (trip : Trip) (kind : LineKind) (leader : LeaderOption) (r : MovementResult) (lamps : Lamps)
+    → trip ≡ tripOf (carAt (w .cars) i) → kind ≡ lineOf (w .lines) (carAt (w .cars) i .line) .kind
     → (isLoop kind ≡ false) ⊎ (leader ≡ leaderOf kind (w .cars) (w .«car_count») i (carAt (w .cars) i))
     → r ≡ landing trip kind leader (carAt (w .cars) i) (w .stops) dt
     → ((asksWork trip kind (r .arrived) ≡ false) × (lamps ≡ lampsOf (carAt (w .cars) i)))
     ⊎ ((asksWork trip kind (r .arrived) ≡ true) × (lamps ≡ workOf trip (w .riders) (w .«rider_count») (carAt (w .cars) i) (w .stops) i))
-    → moveOf dt w i ≡ stepBy trip i kind (w .stops) n (w .ticks) (w .«total_moves») (w .«reposition_distance») (carAt (w .cars) i) r lamps
+    → moveOf dt w i ≡ moveBy w i trip kind r lamps
 unfolding moveOf
-moves dt w i n trip kind leader r lamps en et t ek lead er wk =
+moves dt w i trip kind leader r lamps et ek lead er wk =
     let c = carAt (w .cars) i in
-    let work = workOf trip (w .riders) (w .«rider_count») c (w .stops) i in
     let a : r ≡ landing trip kind (leaderOf kind (w .cars) (w .«car_count») i c) c (w .stops) dt =
     er ∙ ⊎-elim (λ z. any-leader trip kind leader _ c (w .stops) dt z) (λ z. rw z) lead in
-    let b : turnBy trip i kind (w .stops) n (w .ticks) (w .«total_moves») (w .«reposition_distance») c r work
-    ≡ stepBy trip i kind (w .stops) n (w .ticks) (w .«total_moves») (w .«reposition_distance») c r lamps =
-    ⊎-elim
-    (λ z. own-lamps trip i kind (w .stops) n (w .ticks) (w .«total_moves») (w .«reposition_distance») c (r .position) (r .velocity) (r .arrived) work t (z .0)
-    ∙ rw (z .1))
-    (λ z. work-lamps trip i kind (w .stops) n (w .ticks) (w .«total_moves») (w .«reposition_distance») c (r .position) (r .velocity) (r .arrived) work (z .0)
-    ∙ rw (z .1)) wk in
-    rw (← et, ← ek, ← a, ← en) b
+    let b : lamps ≡ cond (asksWork trip kind (r .arrived)) (workOf trip (w .riders) (w .«rider_count») c (w .stops) i) (lampsOf c) =
+    ⊎-elim (λ z. z .1 ∙ rw (z .0)) (λ z. z .1 ∙ rw (z .0)) wk in
+    rw (← et, ← ek, ← a, ← b)
 
 -- ---- a car changed in place
 
@@ -125,9 +114,9 @@ lands cs i p v m =
     (put-put (λ c. placed c p (c .motion .velocity) (c .«move_count»)) (λ c. placed c (c .motion .position) v (c .«move_count»)) cs i)
     ∙ put-put (λ c. placed c p v (c .«move_count»)) (λ c. placed c (c .motion .position) (c .motion .velocity) m) cs i
 
-pub arrives : (cs : List Car) (i : ℕ) (p v : Float) (m : ℕ) (trip : Trip) (lamps : Lamps) (tick : ℕ)
+pub comes-to : (cs : List Car) (i : ℕ) (p v : Float) (m : ℕ) (trip : Trip) (lamps : Lamps) (tick : ℕ)
     → set (thrice cs i p v m) i (come trip (carAt (thrice cs i p v m) i) lamps tick) ≡ set cs i (come trip (placed (carAt cs i) p v m) lamps tick)
-arrives cs i p v m trip lamps tick =
+comes-to cs i p v m trip lamps tick =
     ap (λ (z : List Car). put (λ c. come trip c lamps tick) z i) (lands cs i p v m) ∙ put-put (λ c. placed c p v m) (λ c. come trip c lamps tick) cs i
 
 -- ---- the world that a turn leaves
@@ -150,31 +139,6 @@ after w cars total distance = record {
   «reposition_distance» = distance;
 }
 
-pub left-moving : (w : World) (i n : ℕ) (trip : Trip) (kind : LineKind) (p v : Float) (arrived : Bool) (lamps : Lamps) (x m total : ℕ) (distance : Float)
-    → arrived ≡ false → x ≡ movesBy trip kind (w .stops) n (carAt (w .cars) i) (result p v arrived) → m ≡ plus (carAt (w .cars) i .«move_count») x
-    → total ≡ plus (w .«total_moves») x → distance ≡ distanceBy trip kind (w .«reposition_distance») (carAt (w .cars) i .motion .position) p
-    → after w (thrice (w .cars) i p v m) total distance
-    ≡ stepped w i
-    (stepBy trip i kind (w .stops) n (w .ticks) (w .«total_moves») (w .«reposition_distance») (carAt (w .cars) i) (result p v arrived) lamps)
-left-moving w i n trip kind p v true lamps x m total distance h ex em et ed = yes h
-left-moving w i n trip kind p v false lamps x m total distance h ex em et ed = ap (λ (z : List Car). after w z total distance) (lands (w .cars) i p v m) ∙ rw (em, et, ed, ex)
-
-pub left-at-stop : (w : World) (i n : ℕ) (trip : Trip) (kind : LineKind) (p v : Float) (arrived : Bool) (lamps : Lamps) (x m total : ℕ) (distance : Float) (c : Car)
-    → arrived ≡ true → x ≡ movesBy trip kind (w .stops) n (carAt (w .cars) i) (result p v arrived) → m ≡ plus (carAt (w .cars) i .«move_count») x
-    → total ≡ plus (w .«total_moves») x → distance ≡ distanceBy trip kind (w .«reposition_distance») (carAt (w .cars) i .motion .position) p
-    → c ≡ come trip (carAt (thrice (w .cars) i p v m) i) lamps (w .ticks)
-    → after w (set (thrice (w .cars) i p v m) i c) total distance
-    ≡ stepped w i
-    (stepBy trip i kind (w .stops) n (w .ticks) (w .«total_moves») (w .«reposition_distance») (carAt (w .cars) i) (result p v arrived) lamps)
-left-at-stop w i n trip kind p v false lamps x m total distance c h ex em et ed ec = no h
-left-at-stop w i n trip kind p v true lamps x m total distance c h ex em et ed ec =
-    ap (λ (z : List Car). after w z total distance)
-    (ap (λ (z : Car). set (thrice (w .cars) i p v m) i z) ec ∙ arrives (w .cars) i p v m trip lamps (w .ticks))
-    ∙ rw (em, et, ed, ex)
-
-pub left-at-rest : (w : World) (i : ℕ) → w ≡ stepped w i (at-rest w (carAt (w .cars) i))
-left-at-rest w i = ap (λ (z : List Car). after w z (w .«total_moves») (w .«reposition_distance»)) (sym (set-getD (w .cars) i noCar))
-
 -- ---- the turns so far
 
 pub record Moves (turn : World → ℕ → Step) (world : World) (l : List ℕ) (at i : ℕ) (w : World) (l′ : List ℕ) (to : ℕ) : Type 0 where
@@ -187,28 +151,21 @@ pub more : {turn : World → ℕ → Step} {world w w′ : World} {l l′ l″ :
 unfolding runTo
 more k e f h = record { left = f ∙ rw (add-one, ← k .left, ← e); wrote = rw (add-one, ← k .left) (also (k .wrote) (rw (← e) at h)) }
 
--- turns leave whatever no turn touches
-pub kept : {A : Type 0} (field : World → A) → ((w : World) (i : ℕ) (s : Step) → field (stepped w i s) ≡ field w) → (turn : World → ℕ → Step) (w : World) (i : ℕ)
-    → field (runTo turn w i .world) ≡ field w
-unfolding runTo
-kept field e turn w zero = refl
-kept field e turn w (suc i) = e (runTo turn w i .world) i (turn (runTo turn w i .world) i) ∙ kept field e turn w i
-
 pub stops-kept : {turn : World → ℕ → Step} {world w : World} {l l′ : List ℕ} {at i to : ℕ} → Moves turn world l at i w l′ to → w .stops ≡ world .stops
-stops-kept {turn} {world} {w} {l} {l′} {at} {i} k = ap (λ (z : World). z .stops) (k .left) ∙ kept (λ (z : World). z .stops) (λ v j s. refl) turn world i
+stops-kept {turn} {world} {w} {l} {l′} {at} {i} k = ap (λ (z : World). z .stops) (k .left) ∙ kept turn world (λ (z : World). z .stops) (λ v j s. refl) i
 
 pub count-kept : {turn : World → ℕ → Step} {world w : World} {l l′ : List ℕ} {at i to : ℕ} → Moves turn world l at i w l′ to
     → w .«stop_count» ≡ world .«stop_count»
-count-kept {turn} {world} {w} {l} {l′} {at} {i} k = ap (λ (z : World). z .«stop_count») (k .left) ∙ kept (λ (z : World). z .«stop_count») (λ v j s. refl) turn world i
+count-kept {turn} {world} {w} {l} {l′} {at} {i} k = ap (λ (z : World). z .«stop_count») (k .left) ∙ kept turn world (λ (z : World). z .«stop_count») (λ v j s. refl) i
 
 pub cars-kept : {turn : World → ℕ → Step} {world w : World} {l l′ : List ℕ} {at i to : ℕ} → Moves turn world l at i w l′ to
     → w .«car_count» ≡ world .«car_count»
-cars-kept {turn} {world} {w} {l} {l′} {at} {i} k = ap (λ (z : World). z .«car_count») (k .left) ∙ kept (λ (z : World). z .«car_count») (λ v j s. refl) turn world i
+cars-kept {turn} {world} {w} {l} {l′} {at} {i} k = ap (λ (z : World). z .«car_count») (k .left) ∙ kept turn world (λ (z : World). z .«car_count») (λ v j s. refl) i
 
 -- the hall calls that stand, after the doors' turns
 pub calls-kept : {turn : World → ℕ → Step} {world w : World} {l l′ : List ℕ} {at i to : ℕ} {opened : List JustOpened} → Runs turn world l at i w opened l′ to
     → standing w ≡ standing world
-calls-kept {turn} {world} {w} {l} {l′} {at} {i} k = ap standing (k .left) ∙ kept standing (λ v j s. refl) turn world i
+calls-kept {turn} {world} {w} {l} {l′} {at} {i} k = ap standing (k .left) ∙ kept turn world standing (λ v j s. refl) i
 
 -- the same calls cleared by the same cars
 pub cleared : (opened : List JustOpened) {a b : Standing} {n m : ℕ} {l l′ : List ℕ} {at : ℕ} {r : Calls} → a ≡ b → n ≡ m
@@ -239,9 +196,14 @@ pub goes-on : (dt : Float) (world w w′ : World) (l l′ l″ l‴ : List ℕ) 
     → r .arrived ≡ false → w′ ≡ after w (thrice (w .cars) i (r .position) (r .velocity) m) total distance → l‴ ≡ l″ → to′ ≡ x .at
     → Moves (moveOf dt) world l at (i + 1) w′ l‴ to′
 goes-on dt world w w′ l l′ l″ l‴ at i n to to′ trip kind leader r lamps x m total distance k en et t ek lead er wk told em eo ed h ew el eto =
-    let e = moves dt w i n trip kind leader r lamps (en ∙ rw (count-kept k)) et t (kind-of (w .lines) (carAt (w .cars) i .line) kind ek) lead er wk in
-    let f = left-moving w i n trip kind (r .position) (r .velocity) (r .arrived) lamps (x .count) m total distance h (told .count) em eo ed in
-    more k e (ew ∙ f) (rw (el, eto) (told .wrote))
+    let f : comes trip (r .arrived) ≡ false = rw er (came trip kind leader (carAt (w .cars) i) (w .stops) dt t) ∙ h in
+    let e : moveOf dt w i ≡ passes w i trip kind r =
+    moves dt w i trip kind leader r lamps et (kind-of (w .lines) (carAt (w .cars) i .line) kind ek) lead er wk ∙ rw (t, f) in
+    let n′ : n ≡ min (w .«stop_count») 64 = en ∙ rw (count-kept k) in
+    let tells = rw (n′, f) at told in
+    let left : w′ ≡ stepped w i (passes w i trip kind r) =
+    ew ∙ ap (λ (z : List Car). after w z total distance) (lands (w .cars) i (r .position) (r .velocity) m) ∙ rw (em, eo, ed, tells .count) in
+    more k e left (rw (el, eto) (tells .wrote))
 
 -- it comes to its stop
 pub comes-in : (dt : Float) (world w w′ : World) (l l′ l″ l‴ : List ℕ) (at i n to to′ : ℕ) (trip : Trip) (kind : LineKind) (leader : LeaderOption) (r : MovementResult) (lamps : Lamps)
@@ -259,11 +221,17 @@ pub comes-in : (dt : Float) (world w w′ : World) (l l′ l″ l‴ : List ℕ)
     → w′ ≡ after w (set (thrice (w .cars) i (r .position) (r .velocity) m) i c) total distance → l‴ ≡ l″ → to′ ≡ x .at
     → Moves (moveOf dt) world l at (i + 1) w′ l‴ to′
 comes-in dt world w w′ l l′ l″ l‴ at i n to to′ trip kind leader r lamps x m total distance c k en et t ek lead er wk told em eo ed h ec ew el eto =
-    let e = moves dt w i n trip kind leader r lamps (en ∙ rw (count-kept k)) et t (kind-of (w .lines) (carAt (w .cars) i .line) kind ek) lead er wk in
-    let f = left-at-stop w i n trip kind (r .position) (r .velocity) (r .arrived) lamps (x .count) m total distance c h (told .count) em eo ed ec in
-    more k e (ew ∙ f) (rw (el, eto) (told .wrote))
+    let f : comes trip (r .arrived) ≡ true = rw er (came trip kind leader (carAt (w .cars) i) (w .stops) dt t) ∙ h in
+    let e : moveOf dt w i ≡ arrives w i trip kind r lamps =
+    moves dt w i trip kind leader r lamps et (kind-of (w .lines) (carAt (w .cars) i .line) kind ek) lead er wk ∙ rw (t, f) in
+    let tells = rw f at told in
+    let left : w′ ≡ stepped w i (arrives w i trip kind r lamps) =
+    ew ∙ ap (λ (z : List Car). after w z total distance)
+    (ap (λ (z : Car). set (thrice (w .cars) i (r .position) (r .velocity) m) i z) ec ∙ comes-to (w .cars) i (r .position) (r .velocity) m trip lamps (w .ticks))
+    ∙ rw (em, eo, ed, tells .count) in
+    more k e left (rw (el, eto) (tells .wrote))
 
 -- it rests
 pub stays : (dt : Float) (world w w′ : World) (l l′ l‴ : List ℕ) (at i to to′ : ℕ) (trip : Trip) → Moves (moveOf dt) world l at i w l′ to
     → trip ≡ tripOf (carAt (w .cars) i) → isTrip trip ≡ false → w′ ≡ w → l‴ ≡ l′ → to′ ≡ to → Moves (moveOf dt) world l at (i + 1) w′ l‴ to′
-stays dt world w w′ l l′ l‴ at i to to′ trip k et h ew el eto = more k (rests dt w i trip et h) (ew ∙ left-at-rest w i) (rw (el, eto) wrote-none)
+stays dt world w w′ l l′ l‴ at i to to′ trip k et h ew el eto = more k (rests dt w i trip et h) (ew ∙ stepped-same w i) (rw (el, eto) wrote-none)

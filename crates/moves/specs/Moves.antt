@@ -45,14 +45,14 @@ swept Drives kind old r = manualSpan kind old (r .position) (r .velocity)
 swept (GoesTo s) kind old r = spanOf kind old (r .position)
 swept (Repositions s) kind old r = spanOf kind old (r .position)
 
--- the words of a car that comes to its stop
+-- the words of a car that comes to its stop: run, `if result.arrived`
 abbrev pub comingWords : Trip → ℕ → Lamps → Lamps → List ℕ
 comingWords Rests i was lamps = []
 comingWords Drives i was lamps = []
 comingWords (GoesTo s) i was lamps = wordOf (ElevatorArrived i s) ∷ updateIndicators i was lamps
 comingWords (Repositions s) i was lamps = wordOf (ElevatorRepositioned i s) ∷ wordOf (ElevatorIdle i s) ∷ updateIndicators i was bothLit
 
--- the car at its stop
+-- the car at its stop. run, `if is_repositioning`: "Repositioned elevators go directly to Idle", "cooldown is tick + 240"; else the door begins to open
 abbrev pub come : Trip → Car → Lamps → ℕ → Car
 come Rests c lamps tick = c
 come Drives c lamps tick = c
@@ -61,6 +61,7 @@ come (GoesTo s) c lamps tick =
     (c .cooldown)
 come (Repositions s) c lamps tick = withArrived c Idle (c .door) NoStop false bothLit (popped c s) (AtTick (plus tick 240))
 
+-- the reposition distance after a tick: run, `if is_repositioning`
 abbrev pub distanceBy : Trip → LineKind → Float → Float → Float → Float
 distanceBy Rests kind distance old new = distance
 distanceBy Drives kind distance old new = distance

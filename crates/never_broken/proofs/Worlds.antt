@@ -11,16 +11,13 @@ use Rattle.world.specs.World.{noCar, lineAt, carAt, riderAt}
 use Rattle.world.specs.declared.World.{World}
 use Rattle.world.specs.declared.Car.{Car}
 use Rattle.world.specs.declared.Line.{Line}
-use Rattle.world.specs.declared.LineKind.{LineKind}
 use Rattle.world.specs.declared.Rider.{Rider}
 use Rattle.world.specs.declared.StopOption.{StopOption}
 use Rattle.world.specs.declared.StopOption.the-variants.{NoStop, Stop}
 use Rattle.next_stop.specs.NextStop.{loopNextStopForCar}
 use Rattle.steps.specs.Steps.{lineOf, Step, stepped, runTo, runCars}
+use Rattle.steps.proofs.Cars.{by-turns}
 use Rattle.steps.specs.declared.JustOpened.{JustOpened}
-use Rattle.trips.specs.Trips.{tripOf}
-use Rattle.landing.specs.Landing.{landing, leaderOf}
-use Rattle.arrival.specs.Arrival.{workOf}
 use Rattle.movement_system.specs.Movement.{moveOf, moved}
 use Rattle.door_commands.specs.Commands.{atStop, hasRiderTraversing}
 use Rattle.doors_system.specs.Doors.{doorOf, doored, standing, carsOf, doorsWorld}
@@ -114,28 +111,19 @@ module _
     (w : World)
     (h : Shape w)
   where
-    run-to : (k : ℕ) → k ≤ w .«car_count» → Ran w (runTo turn w k .world)
-    unfolding runTo
-    run-to zero l = record { shape = h; stops = refl; cars = refl }
-    run-to (suc k) l =
-        let v : World = runTo turn w k .world in
-        let p : Ran w v = run-to k (omega arith) in
-        record { shape = step-shape v k (turn v k) (p .shape) (keeps v k (p .shape) (omega (arith, p .cars))); stops = p .stops; cars = p .cars }
-
     run-all : Ran w (runCars turn w .world)
-    unfolding runCars
-    run-all = run-to (min (w .«car_count») 16) (omega arith)
+    unfolding runTo runCars
+    run-all =
+        by-turns turn w (λ k r. Ran w (r .world)) (w .«car_count») (record { shape = h; stops = refl; cars = refl })
+        (λ k l p.
+        let v : World = runTo turn w k .world in
+        record { shape = step-shape v k (turn v k) (p .shape) (keeps v k (p .shape) (omega (arith, p .cars))); stops = p .stops; cars = p .cars })
+        (min (w .«car_count») 16) (omega arith)
 
 -- ---- the two systems
 
 move-keeps : (dt : Float) (w : World) (i : ℕ) → Shape w → i < w .«car_count» → CarIn (w .«line_count») (w .«stop_count») (moveOf dt w i .car)
-unfolding moveOf
-move-keeps dt w i h l =
-    let c : Car = carAt (w .cars) i in
-    let kind : LineKind = lineOf (w .lines) (c .line) .kind in
-    move-in (w .«line_count») (w .«stop_count») c (h .cars .each i l) i kind (w .stops) (min (w .«stop_count») 64) (w .ticks) (w .«total_moves»)
-    (landing (tripOf c) kind (leaderOf kind (w .cars) (w .«car_count») i c) c (w .stops) dt) (tripOf c) (w .«reposition_distance»)
-    (workOf (tripOf c) (w .riders) (w .«rider_count») c (w .stops) i)
+move-keeps dt w i h l = move-in (w .«line_count») (w .«stop_count») dt w i (h .cars .each i l)
 
 door-keeps : (w : World) (i : ℕ) → Shape w → i < w .«car_count» → CarIn (w .«line_count») (w .«stop_count») (doorOf w i .car)
 unfolding doorOf

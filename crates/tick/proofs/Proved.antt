@@ -14,6 +14,7 @@ use Rattle.world.specs.declared.StopOption.the-variants.{NoStop, Stop}
 use Rattle.laws.specs.Numbers.{bit}
 use Rattle.log_words.proofs.Reading.{kind-tick}
 use Rattle.steps.specs.Steps.{runTo, runCars}
+use Rattle.steps.proofs.Cars.{kept}
 use Rattle.steps.specs.declared.JustOpened.{JustOpened}
 use Rattle.movement_system.specs.Movement.{moveOf, moved}
 use Rattle.doors_system.specs.Doors.{standing, carsOf, doorOf, doored, doorsWorld, doorsWords}
@@ -52,6 +53,10 @@ doored-told : (w : World) → Told doorOf w 11 0 (carsOf w) (doored w)
 unfolding doored runCars
 doored-told w = run-told doorOf w 11 0 (λ v i e. door-fair v i) (carsOf w)
 
+same-count : (w : World) (dt : Float) → moved w dt .world .«car_count» ≡ w .«car_count»
+unfolding moved runCars
+same-count w dt = kept (moveOf dt) w (λ (v : World). v .«car_count») (λ v i s. refl) (carsOf w)
+
 -- a tick's words by their parts
 parts : (a b c : List ℕ) → length (a ++ (b ++ c)) ≡ length a + (length b + length c)
 parts a b c = simp length-append
@@ -69,7 +74,7 @@ words-fit w dt =
       arith,
       parts (moved w dt .words) (doored v .words) (clearWordsTo os (standing v) (carsOf v)),
       moved-told w dt .size,
-      moved-told w dt .cars,
+      same-count w dt,
       doored-told v .size,
       calls-quiet os (standing v) (carsOf v) .size,
       mul-le-mul-right (w .«stop_count») few,
@@ -87,7 +92,7 @@ module _ (w : World) (dt : Float) (low : Low w) where
   v = moved w dt .world
 
   same-cars : carsOf v ≡ carsOf w
-  same-cars = rw (moved-told w dt .cars)
+  same-cars = rw (same-count w dt)
 
   moved-grown : Grown (moveOf dt) w (carsOf w) v
   unfolding moved runCars
@@ -112,7 +117,8 @@ module _ (w : World) (dt : Float) (low : Low w) where
       (λ u i e. omega (arith, door-fair u i .few)) (carsOf v) (omega arith)
 
   same-ticks : doored v .world .ticks ≡ w .ticks
-  same-ticks = doored-told v .ticks ∙ moved-told w dt .ticks
+  unfolding moved doored runCars
+  same-ticks = kept doorOf v (λ (u : World). u .ticks) (λ u i s. refl) (carsOf v) ∙ kept (moveOf dt) w (λ (u : World). u .ticks) (λ u i s. refl) (carsOf w)
 
   told : movesIn (tickWords w dt) ≡ sumTo (movesOf (moveOf dt) w) (carsOf w)
   unfolding tickWords doorsWords movesIn

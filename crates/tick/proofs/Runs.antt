@@ -12,6 +12,7 @@ use Rattle.world.specs.World.{carAt, noCar}
 use Rattle.world.specs.declared.World.{World}
 use Rattle.steps.specs.Steps.{Step, Run, runTo, notOpened}
 use Rattle.steps.specs.declared.JustOpened.{JustOpened}
+use Rattle.steps.proofs.Cars.{by-turns, kept}
 use Rattle.tick.specs.Counters.{movesIn, movesOf, sumTo}
 use Rattle.tick.proofs.Turns.{ones, Fair, moves-append}
 
@@ -44,9 +45,6 @@ module _ (os : List JustOpened) (i : ℕ) (o : JustOpened) where
 -- ---- a run of k cars from w: its words, and its counters
 
 pub record Told (f : World → ℕ → Step) (w : World) (room most k : ℕ) (r : Run) : Type 0 where
-  pub stops : r .world .«stop_count» ≡ w .«stop_count»
-  pub cars : r .world .«car_count» ≡ w .«car_count»
-  pub ticks : r .world .ticks ≡ w .ticks
   pub size : length (r .words) + 2 * stopsIn (r .opened) k ≤ k * room
   pub told : movesIn (r .words) ≡ sumTo (movesOf f w) k
   pub few : sumTo (movesOf f w) k ≤ k * most
@@ -62,21 +60,23 @@ module _
     (room most : ℕ)
     (fair : (v : World) (i : ℕ) → v .«stop_count» ≡ w .«stop_count» → Fair room most (v .«total_moves») (carAt (v .cars) i) (f v i))
   where
+    turn-fair : (k : ℕ) → Fair room most (runTo f w k .world .«total_moves») (carAt (runTo f w k .world .cars) k) (f (runTo f w k .world) k)
+    turn-fair k = fair (runTo f w k .world) k (kept f w (λ (v : World). v .«stop_count») (λ v i s. refl) k)
+
     pub run-told : (k : ℕ) → Told f w room most k (runTo f w k)
     unfolding runTo stopsIn sumTo movesIn movesOf
-    run-told zero = record { stops = refl; cars = refl; ticks = refl; size = omega arith; told = refl; few = omega arith }
-    run-told (suc k) =
-        let t : Told f w room most k (runTo f w k) = run-told k in
-        let s : Step = f (runTo f w k .world) k in
-        let h : Fair room most (runTo f w k .world .«total_moves») (carAt (runTo f w k .world .cars) k) s = fair (runTo f w k .world) k (t .stops) in
+    run-told n =
+        by-turns f w (Told f w room most) n (record { size = omega arith; told = refl; few = omega arith })
+        (λ k l t.
+        let r : Run = runTo f w k in
+        let s : Step = f (r .world) k in
+        let h : Fair room most (r .world .«total_moves») (carAt (r .world .cars) k) s = turn-fair k in
         record {
-          stops = t .stops;
-          cars = t .cars;
-          ticks = t .ticks;
-          size = omega (arith, length-append (runTo f w k .words) (s .words), t .size, h .size, stops-set (runTo f w k .opened) k (s .opened));
-          told = moves-append (runTo f w k .words) (s .words) ∙ omega (arith, t .told);
+          size = omega (arith, length-append (r .words) (s .words), t .size, h .size, stops-set (r .opened) k (s .opened));
+          told = moves-append (r .words) (s .words) ∙ omega (arith, t .told);
           few = omega (arith, t .few, h .few);
-        }
+        })
+        n (omega arith)
 
     module _
         (m : ℕ)
@@ -89,7 +89,7 @@ module _
         grow : (k : ℕ) → k < m → Grown f w k (runTo f w k .world) → Grown f w (suc k) (runTo f w (suc k) .world)
         unfolding runTo sumTo movesOf
         grow k K g = record {
-          total = h .total (omega (arith, g .total, t .few, mul-le-mul-left k L)) ∙ omega (arith, g .total);
+          total = h .total (omega (arith, g .total, run-told k .few, mul-le-mul-left k L)) ∙ omega (arith, g .total);
           done = λ j l. ⊎-elim (λ (e : j ≡ k). rw e (here (at-set (v .cars) k (s .car) noCar)))
               (λ (b : j < k). rw (getD-set-other (v .cars) k j (s .car) noCar (λ (e : j ≡ k). omega (arith, e))) (g .done j b)) (eq-or-lt-of-le (last j l));
           rest = λ j l. getD-set-other (v .cars) k j (s .car) noCar (λ (e : j ≡ k). omega (arith, e)) ∙ g .rest j (omega arith);
@@ -101,11 +101,8 @@ module _
             s : Step
             s = f v k
 
-            t : Told f w room most k (runTo f w k)
-            t = run-told k
-
             h : Fair room most (v .«total_moves») (carAt (v .cars) k) s
-            h = fair v k (t .stops)
+            h = turn-fair k
 
             last : (j : ℕ) → j < suc k → j ≤ k
             last j l = omega arith
@@ -120,5 +117,5 @@ module _
 
         pub run-grown : (k : ℕ) → k ≤ m → Grown f w k (runTo f w k .world)
         unfolding runTo sumTo
-        run-grown zero K = record { total = omega arith; done = λ j l. absurd (omega arith); rest = λ j l. refl }
-        run-grown (suc k) K = grow k K (run-grown k (omega arith))
+        run-grown =
+            by-turns f w (λ k r. Grown f w k (r .world)) m (record { total = omega arith; done = λ j l. absurd (omega arith); rest = λ j l. refl }) grow

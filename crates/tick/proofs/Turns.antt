@@ -4,20 +4,14 @@ use mathlib.Core.Bool.{Bool, true, false, _&&_, cond, Bool·beq}
 use mathlib.Core.List.{List, [], _∷_, _++_}
 use Prim.Native.Nat.{ℕ, zero, suc, _+_, _*_, _^_, _<_, _≤_, min}
 use native.Mathlib.Omega.{arith}
-use lib.Dec.{eqb}
 use lib.ListN.{length, length-append}
 use lib.Ieee.{Float}
 use Rattle.motion.specs.declared.movement.MovementResult.{MovementResult}
-use Rattle.door.specs.Door.{tick}
-use Rattle.door.specs.declared.DoorState.{DoorState}
-use Rattle.door.specs.declared.DoorTransition.{DoorTransition}
-use Rattle.door.specs.declared.DoorTransition.the-variants.{None, FinishedOpening, FinishedOpen, FinishedClosing}
 use Rattle.world.specs.World.{carAt}
 use Rattle.world.specs.declared.World.{World}
 use Rattle.world.specs.declared.Car.{Car}
 use Rattle.world.specs.declared.QueuedCommand.{QueuedCommand}
 use Rattle.world.specs.declared.LineKind.{LineKind}
-use Rattle.world.specs.declared.ElevatorPhase.{ElevatorPhase}
 use Rattle.world.specs.declared.StopOption.{StopOption}
 use Rattle.world.specs.declared.StopOption.the-variants.{NoStop, Stop}
 use Rattle.log_words.specs.Words.{word, wordOf, codeOf, ticksOf}
@@ -28,20 +22,19 @@ use Rattle.log_words.proofs.Reading.{kind-word}
 use Rattle.steps.specs.Steps.{lineOf, lampsOf, bothLit, unlit, updateIndicators, Step, notOpened}
 use Rattle.laws.specs.Numbers.{plus}
 use Rattle.world.specs.declared.Lamps.{Lamps}
-use Rattle.trips.specs.Trips.{tripOf}
-use Rattle.trips.specs.Spans.{spanOf, manualSpan, movingUp}
-use Rattle.landing.specs.Landing.{landing, leaderOf}
-use Rattle.arrival.specs.Arrival.{arrivalLamps, workOf}
+use Rattle.trips.specs.Spans.{movingUp}
 use Rattle.trips.specs.declared.Trip.{Trip}
-use Rattle.trips.specs.declared.Trip.the-variants.{Rests, Drives, GoesTo, Repositions}
+use Rattle.trips.specs.declared.Trip.the-variants.{GoesTo, Repositions}
 use Rattle.movement_system.specs.Passing.{passingWords}
-use Rattle.movement_system.specs.Movement.{passedOver, passOf, repositionedOf, arrivedOf, turnBy, moveOf}
+use Rattle.movement_system.specs.Movement.{passedBy, passes, arrives, moveOf}
+use Rattle.movement_system.proofs.Cases.{move-cases}
 use Rattle.door_commands.specs.Commands.{queued, triedOn, workTo, workWordsTo, processDoorCommands, commandWords}
 use Rattle.doors_system.specs.Doors.{doorTurn, stepBy, turnOn, doorOf}
-use Rattle.door_ticks.specs.Ticks.{Turn, openedAt, departedFrom, finishedClosing, finishBy, stays, doorBy, after}
+use Rattle.door_ticks.specs.Ticks.{Turn, openedAt, departedFrom, doorBy, after}
+use Rattle.door_ticks.proofs.Cases.{door-cases}
 use Rattle.door_commands.specs.declared.Work.{Work}
 use Rattle.tick.specs.Counters.{isMove, movesIn}
-use Rattle.tick.proofs.Passed.{span-fits, manual-fits}
+use Rattle.tick.proofs.Passed.{passed-fits}
 use Rattle.laws.proofs.Choices.{both}
 
 -- ---- words
@@ -122,69 +115,56 @@ one-move : (k n s v : ℕ) {m : ℕ} {ws : List ℕ} → isMove k ≡ true → Q
 unfolding movesIn
 one-move k n s v h q = rw (kind-word k n s v, h) (ap suc (q .none))
 
-module _ (i : ℕ) (kind : LineKind) (stops : List Float) (n : ℕ) (few : n ≤ 64) (tick total : ℕ) (c : Car) (r : MovementResult) where
-  abbrev Moves : Step → Type 0
-  Moves s = Fair (n + 3) 64 total c s
+module _ (w : World) (i : ℕ) where
+  abbrev c : Car
+  c = carAt (w .cars) i
 
-  pass-fair : (distance : Float) (ss : List ℕ) → length ss ≤ n → Moves (passOf i kind total c r distance ss)
-  pass-fair distance ss h = record {
-    size = omega (arith, passing-size i up ss);
-    few = omega (arith, passing-moves i up ss);
-    car = λ l. plus-plain (c .«move_count») (length ss) l (omega arith) ∙ omega (arith, passing-moves i up ss);
-    total = λ l. plus-plain total (length ss) l (omega arith) ∙ omega (arith, passing-moves i up ss);
+  abbrev Moves : Step → Type 0
+  Moves s = Fair (w .«stop_count» + 3) 64 (w .«total_moves») c s
+
+  pass-fair : (trip : Trip) (kind : LineKind) (r : MovementResult) → Moves (passes w i trip kind r)
+  pass-fair trip kind r = record {
+    size = omega (arith, fits, passing-size i up ss);
+    few = omega (arith, fits, passing-moves i up ss);
+    car = λ l. plus-plain (c .«move_count») (length ss) l (omega (arith, fits)) ∙ omega (arith, passing-moves i up ss);
+    total = λ l. plus-plain (w .«total_moves») (length ss) l (omega (arith, fits)) ∙ omega (arith, passing-moves i up ss);
   }
     where
       up : Bool
       up = movingUp kind (c .motion .position) (r .position)
 
+      ss : List ℕ
+      ss = passedBy trip kind (w .stops) (min (w .«stop_count») 64) (c .motion .position) r
+
+      fits : length ss ≤ min (w .«stop_count») 64
+      fits = passed-fits trip kind (w .stops) (min (w .«stop_count») 64) (c .motion .position) r
+
   -- a turn of one move
   one-fair : (s : Step) → s .opened ≡ notOpened → length (s .words) ≤ 3 → movesIn (s .words) ≡ 1 → s .car .«move_count» ≡ plus (c .«move_count») 1
-      → s .total ≡ plus total 1 → Moves s
+      → s .total ≡ plus (w .«total_moves») 1 → Moves s
   one-fair s o h m p q = record {
     size = rw o (omega arith);
     few = omega arith;
     car = λ l. p ∙ plus-plain (c .«move_count») 1 l (omega arith) ∙ omega arith;
-    total = λ l. q ∙ plus-plain total 1 l (omega arith) ∙ omega arith;
+    total = λ l. q ∙ plus-plain (w .«total_moves») 1 l (omega arith) ∙ omega arith;
   }
 
-  arrived-fair : (distance : Float) (s : ℕ) (lamps : Lamps) → Moves (arrivedOf i total c r distance s lamps)
-  arrived-fair distance s lamps =
+  arrived-fair : (s : ℕ) (kind : LineKind) (r : MovementResult) (lamps : Lamps) → Moves (arrives w i (GoesTo s) kind r lamps)
+  arrived-fair s kind r lamps =
       let q : Quiet 1 (updateIndicators i (lampsOf c) lamps) = lamps-quiet i (lampsOf c) lamps in
-      one-fair (arrivedOf i total c r distance s lamps) refl (omega (arith, q .size)) (one-move 2 i s 0 refl q) refl refl
+      one-fair (arrives w i (GoesTo s) kind r lamps) refl (omega (arith, q .size)) (one-move 2 i s 0 refl q) refl refl
 
-  repositioned-fair : (distance : Float) (s : ℕ) → Moves (repositionedOf i tick total c r distance s)
-  repositioned-fair distance s =
+  repositioned-fair : (s : ℕ) (kind : LineKind) (r : MovementResult) (lamps : Lamps) → Moves (arrives w i (Repositions s) kind r lamps)
+  repositioned-fair s kind r lamps =
       let q : Quiet 2 (wordOf (ElevatorIdle i s) ∷ updateIndicators i (lampsOf c) bothLit) =
       quiet-join (quiet-one 4 i s 0 refl) (lamps-quiet i (lampsOf c) bothLit) in
-      one-fair (repositionedOf i tick total c r distance s) refl (omega (arith, q .size)) (one-move 3 i s 0 refl q) refl refl
-
-  turn-fair : (trip : Trip) (distance : Float) (work : Lamps) → Moves (turnBy trip i kind stops n tick total distance c r work)
-  unfolding movesIn
-  turn-fair Rests distance work = record { size = omega arith; few = omega arith; car = λ l. omega arith; total = λ l. omega arith }
-  turn-fair Drives distance work =
-      pass-fair distance (passedOver (manualSpan kind (c .motion .position) (r .position) (r .velocity)) stops n NoStop)
-      (manual-fits stops n NoStop kind (c .motion .position) (r .position) (r .velocity))
-  turn-fair (GoesTo s) distance work =
-      both Moves (r .arrived) (arrived-fair distance s (arrivalLamps kind work c))
-      (pass-fair distance (passedOver (spanOf kind (c .motion .position) (r .position)) stops n (Stop s))
-      (span-fits stops n (Stop s) kind (c .motion .position) (r .position)))
-  turn-fair (Repositions s) distance work =
-      both Moves (r .arrived) (repositioned-fair _ s)
-      (pass-fair _ (passedOver (spanOf kind (c .motion .position) (r .position)) stops n (Stop s))
-      (span-fits stops n (Stop s) kind (c .motion .position) (r .position)))
-
-roomier : {m n most before : ℕ} {c : Car} {s : Step} → m ≤ n → Fair m most before c s → Fair n most before c s
-roomier h f = record { size = omega (arith, f .size); few = f .few; car = f .car; total = f .total }
+      one-fair (arrives w i (Repositions s) kind r lamps) refl (omega (arith, q .size)) (one-move 3 i s 0 refl q) refl refl
 
 pub move-fair : (dt : Float) (w : World) (i : ℕ) → Fair (w .«stop_count» + 3) 64 (w .«total_moves») (carAt (w .cars) i) (moveOf dt w i)
-unfolding moveOf
+unfolding movesIn
 move-fair dt w i =
-    let c : Car = carAt (w .cars) i in
-    let kind : LineKind = lineOf (w .lines) (c .line) .kind in
-    roomier (omega arith)
-    (turn-fair i kind (w .stops) (min (w .«stop_count») 64) (omega arith) (w .ticks) (w .«total_moves») c
-    (landing (tripOf c) kind (leaderOf kind (w .cars) (w .«car_count») i c) c (w .stops) dt) (tripOf c) (w .«reposition_distance»)
-    (workOf (tripOf c) (w .riders) (w .«rider_count») c (w .stops) i))
+    move-cases (Moves w i) w i (record { size = omega arith; few = omega arith; car = λ l. omega arith; total = λ l. omega arith }) (λ e. pass-fair w i)
+    (λ e. arrived-fair w i) (λ e. repositioned-fair w i) dt
 
 -- ---- doors
 
@@ -210,29 +190,21 @@ pub record Shuts (c : Car) (room : ℕ) (t : Turn) : Type 0 where
 shuts : {n : ℕ} {t : Turn} (c : Car) (room : ℕ) → Quiet n (t .words) → n + 2 * ones (t .opened .stop) ≤ room → t .car .«move_count» ≡ c .«move_count» → Shuts c room t
 shuts c room q h e = record { size = omega (arith, q .size); none = q .none; count = e }
 
-module _ (i : ℕ) (c : Car) (k : Work) where
-  opened-most : (s : StopOption) → ones (openedAt s c .stop) ≤ 1
-  opened-most NoStop = omega arith
-  opened-most (Stop s) = omega arith
+opened-most : (s : StopOption) (c : Car) → ones (openedAt s c .stop) ≤ 1
+opened-most NoStop c = omega arith
+opened-most (Stop s) c = omega arith
 
-  departed-quiet : (s : StopOption) → Quiet 1 (departedFrom s i)
-  departed-quiet NoStop = quiet-more (omega arith) quiet-none
-  departed-quiet (Stop s) = quiet-one 8 i s 0 refl
+departed-quiet : (s : StopOption) (i : ℕ) → Quiet 1 (departedFrom s i)
+departed-quiet NoStop i = quiet-more (omega arith) quiet-none
+departed-quiet (Stop s) i = quiet-one 8 i s 0 refl
 
-  closing-shuts : (next : StopOption) (door : DoorState) → Shuts c 3 (finishedClosing next i c k door)
-  closing-shuts NoStop door = shuts c 3 (quiet-join (quiet-one 7 i 0 0 refl) (lamps-quiet i (lampsOf c) bothLit)) (omega arith) refl
-  closing-shuts (Stop s) door =
-      shuts c 3 (quiet-join (quiet-one 7 i 0 0 refl) (quiet-join (lamps-quiet i (lampsOf c) unlit) (departed-quiet (c .«target_stop»)))) (omega arith) refl
-
-  finish-shuts : (t : DoorTransition) (phase : ElevatorPhase) (door : DoorState) (next : StopOption) → Shuts c 3 (finishBy t phase door i c k next)
-  finish-shuts FinishedOpening phase door next = shuts c 3 (quiet-one 6 i 0 0 refl) (omega (arith, opened-most (c .«target_stop»))) refl
-  finish-shuts FinishedOpen phase door next = shuts c 3 quiet-none (omega arith) refl
-  finish-shuts FinishedClosing phase door next = closing-shuts next door
-  finish-shuts None phase door next = shuts c 3 quiet-none (omega arith) refl
-
-  door-shuts : (phase : ElevatorPhase) (door : DoorState) (next : StopOption) → Shuts c 3 (doorBy phase door i c k next)
-  door-shuts phase door next =
-      both (Shuts c 3) (stays phase door c) (shuts c 3 quiet-none (omega arith) refl) (finish-shuts (tick door .transition) phase (tick door .door) next)
+door-shuts : (i : ℕ) (c : Car) (k : Work) (next : StopOption) → Shuts c 3 (doorBy (k .phase) (k .door) i c k next)
+door-shuts i c k next =
+    door-cases (Shuts c 3) i c k next (λ d. shuts c 3 quiet-none (omega arith) refl)
+    (λ d. shuts c 3 (quiet-one 6 i 0 0 refl) (omega (arith, opened-most (c .«target_stop») c)) refl)
+    (λ d. shuts c 3 quiet-none (omega arith) refl)
+    (λ d. shuts c 3 (quiet-join (quiet-one 7 i 0 0 refl) (lamps-quiet i (lampsOf c) bothLit)) (omega arith) refl)
+    (λ s d e. shuts c 3 (quiet-join (quiet-one 7 i 0 0 refl) (quiet-join (lamps-quiet i (lampsOf c) unlit) (departed-quiet (c .«target_stop») i))) (omega arith) refl)
 
 after-shuts : {c : Car} {ws : List ℕ} (t : Turn) → Quiet 8 ws → Shuts c 3 t → Shuts c 11 (after ws t)
 after-shuts {c} {ws} t q h = record {
@@ -246,7 +218,7 @@ unfolding movesIn
 turn-shuts i c atStop traversing next =
     let k : Work = processDoorCommands c atStop traversing in
     both (Shuts c 11) (c .enabled)
-    (after-shuts (doorBy (k .phase) (k .door) i c k next) (commands-quiet c atStop traversing i) (door-shuts i c k (k .phase) (k .door) next))
+    (after-shuts (doorBy (k .phase) (k .door) i c k next) (commands-quiet c atStop traversing i) (door-shuts i c k next))
     (record { size = omega arith; none = refl; count = refl })
 
 step-fair : (w : World) (c : Car) (t : Turn) → Shuts c 11 t → Fair 11 0 (w .«total_moves») c (stepBy w t)
