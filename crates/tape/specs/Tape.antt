@@ -29,7 +29,7 @@ use Rattle.tape.specs.declared.loads.RiderBody.{RiderBody}
 use Rattle.tape.specs.declared.Record.{Record}
 use Rattle.tape.specs.declared.Record.the-variants as Record
 use Rattle.tape.specs.declared.Read.{Read}
-use Rattle.tape.specs.declared.Read.the-variants.{Refused, Accepted}
+use Rattle.tape.specs.declared.Read.the-variants.{Refused, Accepted, Tick}
 use Rattle.tape.specs.declared.Decoded.{Decoded}
 use Rattle.fields.specs.Fields.{kindOf, headOf, floatAt, rawZeroAt, outsideSize, outsideFromZero, outsideAboveZero}
 
@@ -303,12 +303,8 @@ tickRecord h ws = record {
       ∷ check FieldOutside (anyFieldSet h)
       ∷ check FloatOutside (outsideAboveZero (floatAt ws 1) F64.one)
       ∷ [];
-  done = accepted (Record.Tick (floatAt ws 1)) 3;
+  done = alone (Tick (floatAt ws 1) 3);
 }
-
--- whether the words begin with a tick's head: the first word's kind is C. Where there is no word, 0 stands for it, and kind 0 is none.
-abbrev pub beginsTick : List ℕ → Bool
-beginsTick ws = eqb (kindOf (getD ws 0 0)) 12
 
 -- ---- D start
 

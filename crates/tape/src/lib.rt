@@ -5,7 +5,7 @@ pub mod facts; // claims about the definitions
 
 ghost use mathlib.Core.Path.{_≡_};
 ghost use mathlib.Core.List.{[], _∷_};
-ghost use Rattle.tape.specs.Tape.{unless, accepted, refused, beginsTick, decoded};
+ghost use Rattle.tape.specs.Tape.{unless, alone, accepted, refused, decoded};
 ghost use Rattle.world.specs.Refusal.{check};
 use door::DoorCommand;
 use fields::head::head_of;
@@ -16,7 +16,7 @@ use world::ServiceMode;
 use world::SpeedOption;
 use world::refusal::Refusal;
 
-// A record with its values. A line's list stands beside it, in Decoded.
+// A record other than a tick, with its values. A line's list stands beside it, in Decoded.
 pub enum Record {
     Line {
         number: u8,
@@ -68,16 +68,14 @@ pub enum Record {
         car: u8,
         enabled: bool,
     },
-    Tick {
-        dt: f64,
-    },
     Start,
 }
 
-// A refusal, or a record and how many words it took.
+// A refusal, a record and how many words it took, or a tick.
 pub enum Read {
     Refused(Refusal),
     Accepted(Record, usize),
+    Tick { dt: f64, used: usize },
 }
 
 // What a tape begins with. `serves` has a line's list up to its count; all else of it is 0.
@@ -106,6 +104,13 @@ fn checked(
 ) -> Decoded
     ensures { λ r. ⌜ r ≡ unless (check Refusal.CutShort «cut_short» ∷ check Refusal.FieldOutside «field_outside» ∷ check Refusal.FloatOutside «float_outside» ∷ []) (accepted found used) ⌝ }
 {
+    let read = Read::Accepted(found, used);
+    checked_read(cut_short, field_outside, float_outside, read)
+}
+
+fn checked_read(cut_short: bool, field_outside: bool, float_outside: bool, read: Read) -> Decoded
+    ensures { λ r. ⌜ r ≡ unless (check Refusal.CutShort «cut_short» ∷ check Refusal.FieldOutside «field_outside» ∷ check Refusal.FloatOutside «float_outside» ∷ []) (alone read) ⌝ }
+{
     if cut_short {
         return refused(Refusal::CutShort);
     }
@@ -115,22 +120,10 @@ fn checked(
     if float_outside {
         return refused(Refusal::FloatOutside);
     }
-    let read = Read::Accepted(found, used);
     Decoded {
         read,
         serves: [0u8; 64],
     }
-}
-
-// Whether the words begin with a tick's head.
-pub fn is_tick(words: &[u32]) -> bool
-    ensures { λ r. ⌜ r ≡ beginsTick (now (words .entry)) ⌝ }
-{
-    if words.len() > 0 {
-        let head = head_of(words[0]);
-        return head.kind == 12;
-    }
-    false
 }
 
 // The record that the words begin with.

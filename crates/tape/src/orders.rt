@@ -2,8 +2,10 @@
 ghost use mathlib.Core.Path.{_≡_};
 ghost use Rattle.tape.specs.Tape.{answer, sendRecord, modeOf, modeRecord, speedOf, manualSpeedRecord, commandOf, doorCommandRecord, hallCallRecord, destinationRecord, enableRecord, tickRecord, startRecord};
 use crate::Decoded;
+use crate::Read;
 use crate::Record;
 use crate::checked;
+use crate::checked_read;
 use door::DoorCommand;
 use fields::body::float_at;
 use fields::body::outside_above_zero;
@@ -130,8 +132,8 @@ pub fn decode_tick(head: Head, words: &[u32]) -> Decoded
     let field_outside = (head.n != 0) | (head.s != 0) | (head.v != 0);
     let dt = float_at(words, 1);
     let float_outside = outside_above_zero(dt, 1.0);
-    let record = Record::Tick { dt };
-    checked(words.len() < 3, field_outside, float_outside, record, 3)
+    let read = Read::Tick { dt, used: 3 };
+    checked_read(words.len() < 3, field_outside, float_outside, read)
 }
 
 pub fn decode_start(head: Head) -> Decoded

@@ -173,18 +173,14 @@ module _ (i : ℕ) (kind : LineKind) (stops : List Float) (n : ℕ) (few : n ≤
       (pass-fair _ (passedOver (spanOf kind (c .motion .position) (r .position)) stops n (Stop s))
       (span-fits stops n (Stop s) kind (c .motion .position) (r .position)))
 
-roomier : {m n most before : ℕ} {c : Car} {s : Step} → m ≤ n → Fair m most before c s → Fair n most before c s
-roomier h f = record { size = omega (arith, f .size); few = f .few; car = f .car; total = f .total }
-
-pub move-fair : (dt : Float) (w : World) (i : ℕ) → Fair (w .«stop_count» + 3) 64 (w .«total_moves») (carAt (w .cars) i) (moveOf dt w i)
+pub move-fair : (dt : Float) (w : World) (i : ℕ) → Fair (min (w .«stop_count») 64 + 3) 64 (w .«total_moves») (carAt (w .cars) i) (moveOf dt w i)
 unfolding moveOf
 move-fair dt w i =
     let c : Car = carAt (w .cars) i in
     let kind : LineKind = lineOf (w .lines) (c .line) .kind in
-    roomier (omega arith)
-    (turn-fair i kind (w .stops) (min (w .«stop_count») 64) (omega arith) (w .ticks) (w .«total_moves») c
+    turn-fair i kind (w .stops) (min (w .«stop_count») 64) (omega arith) (w .ticks) (w .«total_moves») c
     (landing (tripOf c) kind (leaderOf kind (w .cars) (w .«car_count») i c) c (w .stops) dt) (tripOf c) (w .«reposition_distance»)
-    (workOf (tripOf c) (w .riders) (w .«rider_count») c (w .stops) i))
+    (workOf (tripOf c) (w .riders) (w .«rider_count») c (w .stops) i)
 
 -- ---- doors
 

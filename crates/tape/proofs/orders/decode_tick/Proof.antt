@@ -3,7 +3,7 @@ use Rattle.tape.proofs.orders.decode_tick.Statement.{statement}
 use Rattle.tape.proofs.orders.decode_tick.Tie as tie
 
 returns : tie.Need-returns
-returns c = rw (c .checked .ensures, c .before .outside-above-zero .ensures, c .before .before .float-at .ensures)
+returns c = rw (c .checked-read .ensures, c .before .outside-above-zero .ensures, c .before .before .float-at .ensures)
 
 pub decode-tick-spec : {M : Type 1} → statement M
 decode-tick-spec = tie.close (tie.spec (λ c κs. tt) (λ c κs. tt) (λ c κs. tt) returns)
