@@ -1,10 +1,15 @@
 -- `record_kinds::take_tick` meets its contract: its tests in their order. Assumes nothing.
-use mathlib.Core.Path.{_≡_, sym, _∙_}
-use Prim.Native.Nat.{ℕ, _+_, _*_, _≤_, min}
+use mathlib.Core.Path.{_≡_}
+use mathlib.Core.Bool.{cond}
+use Prim.Native.Nat.{ℕ, _+_, _*_, _^_, _≤_, min}
+use lib.Dec.{ltb}
 use native.Mathlib.Nat.{mul-le-mul}
 use native.Mathlib.Omega.{arith}
 use borrow.Author.Needs.{needs}
 use borrow.Author.Tests.{lt-ltb, le-ltb, le-leb, lt-leb}
+use Rattle.world.specs.declared.refusal.Refusal.the-variants.{LogShort}
+use Rattle.changes.specs.declared.Taken.{Taken}
+use Rattle.changes.specs.declared.Taken.the-variants.{Accepted, Refused}
 use Rattle.tick.specs.Room.{roomFor}
 use Rattle.record_kinds.specs.Kinds.{tickTaken}
 use Rattle.record_kinds.proofs.take_tick.Statement.{statement}
@@ -36,19 +41,25 @@ returns c = rw (c .if1 .taken)
 
 returns-2 : tie.Need-returns-2
 unfolding tickTaken
-returns-2 c = rw (c .before .if1 .left, le-leb _ _ (c .if2 .taken))
+returns-2 c = rw (c .before .if1 .left, le-leb (2 ^ 28) (c .before .before .args .ticks) (c .if2 .taken))
+
+-- what was looked for before the room is not there
+module _ (c : tie.After-at-most2) where
+  abbrev a : tie.Start
+  a = c .before .before .before .before
+
+  abbrev asked : ℕ
+  asked = roomFor (a .args .cars) (a .args .stops)
+
+  passed : (r : Taken) → r ≡ cond (ltb (a .args .room) asked) (Refused LogShort) Accepted → r ≡ tickTaken (a .args .started) (a .args .ticks) (a .args .cars) (a .args .stops) (a .args .room)
+  unfolding tickTaken
+  passed r e = rw (c .before .before .before .if1 .left, lt-leb (2 ^ 28) (a .args .ticks) (c .before .before .if2 .left)) e
 
 returns-3 : tie.Need-returns-3
-unfolding tickTaken
-returns-3 c =
-    let b = c .before .before .before in
-    rw (b .before .if1 .left, lt-leb _ _ (b .if2 .left), ← room (c .before), lt-ltb _ _ (c .if3 .taken))
+returns-3 c = passed (c .before) _ (rw (lt-ltb (a (c .before) .args .room) (asked (c .before)) (rw (← room (c .before)) (c .if3 .taken))))
 
 returns-4 : tie.Need-returns-4
-unfolding tickTaken
-returns-4 c =
-    let b = c .before .before .before in
-    rw (b .before .if1 .left, lt-leb _ _ (b .if2 .left), ← room (c .before), le-ltb _ _ (c .if3 .left))
+returns-4 c = passed (c .before) _ (rw (le-ltb (a (c .before) .args .room) (asked (c .before)) (rw (← room (c .before)) (c .if3 .left))))
 
 pub take-tick-spec : {M : Type 1} → statement M
 take-tick-spec =
