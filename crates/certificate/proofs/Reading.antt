@@ -28,7 +28,7 @@ use Rattle.fields.specs.Fields.{headOf}
 use Rattle.layout.specs.Layout.{kindOf, vOf}
 use Rattle.tape_records.specs.declared.Decoded.{Decoded}
 use Rattle.tape_records.specs.declared.Read.{Read}
-use Rattle.tape_records.specs.declared.Read.the-variants.{Accepted, Refused}
+use Rattle.tape_records.specs.declared.Read.the-variants.{Accepted, Refused, Tick}
 use Rattle.tape_records.specs.declared.Record.{Record}
 use Rattle.tape_records.specs.declared.Record.the-variants as Record
 use Rattle.tick.specs.Counters.{Low}
@@ -36,24 +36,25 @@ use Rattle.laws.proofs.Choices.{both, cases}
 
 -- ---- the record read from words with the head h: only kind C is a tick, and only kind 6 with v 3 makes a car Manual
 
+-- of a mode: Manual only by v 3
 abbrev pub Says : ℕ → Record → Type 0
-Says h (Record.Line number kind listed count) = eqb (kindOf h) 12 ≡ false
-Says h (Record.Stop number position) = eqb (kindOf h) 12 ≡ false
-Says h (Record.Car number plan) = eqb (kindOf h) 12 ≡ false
-Says h (Record.Rider number rider) = eqb (kindOf h) 12 ≡ false
-Says h (Record.Send car stop reposition) = eqb (kindOf h) 12 ≡ false
-Says h (Record.Mode car mode) = (eqb (kindOf h) 12 ≡ false) × (eqb (kindOf h) 6 && eqb (vOf h) 3 ≡ false → isManual mode ≡ false)
-Says h (Record.ManualSpeed car speed) = eqb (kindOf h) 12 ≡ false
-Says h (Record.DoorCommand car command) = eqb (kindOf h) 12 ≡ false
-Says h (Record.HallCall stop down) = eqb (kindOf h) 12 ≡ false
-Says h (Record.Destination car stop) = eqb (kindOf h) 12 ≡ false
-Says h (Record.Enable car enabled) = eqb (kindOf h) 12 ≡ false
-Says h (Record.Tick dt) = eqb (kindOf h) 12 ≡ true
-Says h Record.Start = eqb (kindOf h) 12 ≡ false
+Says h (Record.Line number kind listed count) = Unit {0}
+Says h (Record.Stop number position) = Unit {0}
+Says h (Record.Car number plan) = Unit {0}
+Says h (Record.Rider number rider) = Unit {0}
+Says h (Record.Send car stop reposition) = Unit {0}
+Says h (Record.Mode car mode) = eqb (kindOf h) 6 && eqb (vOf h) 3 ≡ false → isManual mode ≡ false
+Says h (Record.ManualSpeed car speed) = Unit {0}
+Says h (Record.DoorCommand car command) = Unit {0}
+Says h (Record.HallCall stop down) = Unit {0}
+Says h (Record.Destination car stop) = Unit {0}
+Says h (Record.Enable car enabled) = Unit {0}
+Says h Record.Start = Unit {0}
 
 abbrev pub Reads : ℕ → Read → Type 0
 Reads h (Refused r) = Unit {0}
-Reads h (Accepted read used) = Says h read
+Reads h (Accepted read used) = (eqb (kindOf h) 12 ≡ false) × Says h read
+Reads h (Tick dt used) = eqb (kindOf h) 12 ≡ true
 
 not-manual : (v : ℕ) → eqb v 3 ≡ false → isManual (modeOf v) ≡ false
 not-manual v e =
@@ -81,37 +82,16 @@ pub decoded-reads : (ws : List ℕ) → Reads (getD ws 0 0) (decoded ws .read)
 unfolding decoded recordOf lineRecord
 decoded-reads ws =
     unless-reads (Reads h) (check CutShort (eqb (length ws) 0) ∷ []) (recordOf (headOf h) ws) (λ r. tt)
-    (kind-reads (Reads h) (kindOf h) (kinds (headOf h) ws) (λ r. tt) (
-      no 1 refl,
-      (
-        no 2 refl,
-        (
-          no 3 refl,
-          (
-            no 4 refl,
-            (
-              no 5 refl,
-              (
-                (λ e. (no 6 refl e, λ q. not-manual (vOf h) (rw e at q))),
-                (
-                  no 7 refl,
-                  (
-                    no 8 refl,
-                    (no 9 refl, (no 10 refl, (no 11 refl, ((λ e. e), (no 13 refl, tt))))),
-                  ),
-                ),
-              ),
-            ),
-          ),
-        ),
-      ),
-    ))
+    (kind-reads (Reads h) (kindOf h) (kinds (headOf h) ws) (λ r. tt) (no 1 refl, (no 2 refl, (no 3 refl, (no 4 refl, (no 5 refl, ((λ e. (not-tick 6 refl e, λ q. not-manual (vOf h) (rw e at q))), (no 7 refl, (no 8 refl, (no 9 refl, (no 10 refl, (no 11 refl, ((λ e. e), (no 13 refl, tt))))))))))))))
   where
     h : ℕ
     h = getD ws 0 0
 
-    no : (m : ℕ) → eqb m 12 ≡ false → eqb (kindOf h) m ≡ true → eqb (kindOf h) 12 ≡ false
-    no m q e = rw (eqb-true (kindOf h) m e) q
+    not-tick : (m : ℕ) → eqb m 12 ≡ false → eqb (kindOf h) m ≡ true → eqb (kindOf h) 12 ≡ false
+    not-tick m q e = rw (eqb-true (kindOf h) m e) q
+
+    no : (m : ℕ) → eqb m 12 ≡ false → eqb (kindOf h) m ≡ true → (eqb (kindOf h) 12 ≡ false) × Unit {0}
+    no m q e = (not-tick m q e, tt)
 
 -- ---- a world that is not broken has low counters
 

@@ -48,7 +48,8 @@ use Rattle.tick.specs.Room.{roomOf, WordsFit}
 use Rattle.tick.specs.Counters.{sumTo}
 use Rattle.laws.proofs.Choices.{both, cases}
 use Rattle.tick.proofs.Proved.{words-fit}
-use Rattle.record.specs.Record.{Outcome, isAccepted, accepted, refused, unless, changed, tickChecks, ticked, tickOnce, taken, readBy, recordOf}
+use Rattle.record_kinds.specs.Kinds.{changeBy}
+use Rattle.record.specs.Record.{Outcome, isAccepted, accepted, refused, unless, changed, checksOfTick, ticked, tickOnce, readBy, recordOf}
 use Rattle.record.specs.Calls.{Call, outcome, next, headWord}
 use Rattle.certificate.specs.Certificate.{isTick, putsManual, positionOf, told}
 use Rattle.certificate.proofs.Watch.{openAfter, told-none}
@@ -199,9 +200,9 @@ module _ (w : World) (c : Call) (j : List ℕ) (h : Keeps j w) (used : ℕ) wher
         kept w c j (tickWords w dt) (ticked w (c .log) used dt) words (k .held, tick-sums w dt j (u .few) (k .count) (u .low) (h .1)) (λ _. k .stands) e
 
     tick-kept : Unbroken w → eqb (kindOf (headWord c)) 12 ≡ true → Gives w c j (tickOnce w (c .log) used dt)
-    unfolding tickOnce WordsFit
+    unfolding tickOnce WordsFit roomOf
     tick-kept u t =
-        unless-cases (Gives w c j) (tickChecks w (c .log)) w (c .log) (ticked w (c .log) used dt) refuses
+        unless-cases (Gives w c j) (checksOfTick w (c .log)) w (c .log) (ticked w (c .log) used dt) refuses
         (λ q. ticks u t (omega (arith, words-fit w dt, ltb-false (length (c .log)) (roomOf w) (q .1 .1 .0))))
 
   car-kept : (number : ℕ) (plan : CarPlan) → eqb (kindOf (headWord c)) 12 ≡ false
@@ -243,41 +244,41 @@ module _ (w : World) (c : Call) (j : List ℕ) (h : Keeps j w) (used : ℕ) wher
       (λ q. let l : car < w .«car_count» = loaded w j h car (known q) in ordered w j h car d l (f (fit w j h car l)) m)
 
 -- a record that was read, where it puts no car into Manual mode
-module _ (w : World) (c : Call) (j : List ℕ) (h : Keeps j w) (p : putsManual w c ≡ false) (u : Unbroken w) (used : ℕ) (serves : List ℕ) where
-  taken-kept : (r : Record) → Says (headWord c) r → Gives w c j (taken w (c .log) used serves r)
+module _ (w : World) (c : Call) (j : List ℕ) (h : Keeps j w) (p : putsManual w c ≡ false) (used : ℕ) (serves : List ℕ) where
+  changed-kept : (r : Record) → eqb (kindOf (headWord c)) 12 ≡ false → Says (headWord c) r → Gives w c j (changed (c .log) used (changeBy w serves r))
   unfolding loadLine loadStop loadRider start setMode setManualSpeed queueCommand pressHallCall pushDestination setEnabled
-  taken-kept (Record.Line number kind listed count) s =
-      plain w c j h used (Loads.lineChecks w number (Loads.lineRow kind listed count serves)) _ s (λ q. h)
-  taken-kept (Record.Stop number position) s = plain w c j h used (Loads.stopChecks w number) _ s (λ q. h)
-  taken-kept (Record.Car number plan) s = car-kept w c j h used number plan s
-  taken-kept (Record.Rider number rider) s = plain w c j h used (Loads.riderChecks w number rider) _ s (λ q. h)
-  taken-kept (Record.Send car stop reposition) s = send-kept w c j h used car stop reposition s
-  taken-kept (Record.Mode car mode) s =
+  changed-kept (Record.Line number kind listed count) t s =
+      plain w c j h used (Loads.lineChecks w number (Loads.lineRow kind listed count serves)) _ t (λ q. h)
+  changed-kept (Record.Stop number position) t s = plain w c j h used (Loads.stopChecks w number) _ t (λ q. h)
+  changed-kept (Record.Car number plan) t s = car-kept w c j h used number plan t
+  changed-kept (Record.Rider number rider) t s = plain w c j h used (Loads.riderChecks w number rider) _ t (λ q. h)
+  changed-kept (Record.Send car stop reposition) t s = send-kept w c j h used car stop reposition t
+  changed-kept (Record.Mode car mode) t s =
       let d : Car = Modes.inMode (carAt (w .cars) car) mode in
       changed-cases (Gives w c j) (Modes.orderChecks w car) w (withCar w car d) (c .log) used (refuses w c j h used)
       (λ q e. let l : car < w .«car_count» = loaded w j h car (q .1 .0) in
-      quiet w c j h used (accepted used 0 (withCar w car d) (c .log)) (s .0)
-      (ordered w j h car d l (record { sound = fit w j h car l .sound; tame = s .1 (rw e at p) }) refl) e)
-  taken-kept (Record.ManualSpeed car speed) s =
-      order w c j h used (Modes.orderChecks w car) car (Modes.atSpeed (carAt (w .cars) car) speed) s (λ q. q .1 .0)
+      quiet w c j h used (accepted used 0 (withCar w car d) (c .log)) t
+      (ordered w j h car d l (record { sound = fit w j h car l .sound; tame = s (rw e at p) }) refl) e)
+  changed-kept (Record.ManualSpeed car speed) t s =
+      order w c j h used (Modes.orderChecks w car) car (Modes.atSpeed (carAt (w .cars) car) speed) t (λ q. q .1 .0)
       (λ f. record { sound = f .sound; tame = f .tame }) refl
-  taken-kept (Record.DoorCommand car command) s =
-      order w c j h used (Requests.commandChecks w car) car (Requests.commanded (carAt (w .cars) car) command) s (λ q. q .1 .0)
+  changed-kept (Record.DoorCommand car command) t s =
+      order w c j h used (Requests.commandChecks w car) car (Requests.commanded (carAt (w .cars) car) command) t (λ q. q .1 .0)
       (λ f. record { sound = f .sound; tame = f .tame }) refl
-  taken-kept (Record.HallCall stop down) s = plain w c j h used (Requests.callChecks w stop) _ s (λ q. h)
-  taken-kept (Record.Destination car stop) s =
-      order w c j h used (Requests.destinationChecks w car stop) car (Requests.destined (carAt (w .cars) car) stop) s
+  changed-kept (Record.HallCall stop down) t s = plain w c j h used (Requests.callChecks w stop) _ t (λ q. h)
+  changed-kept (Record.Destination car stop) t s =
+      order w c j h used (Requests.destinationChecks w car stop) car (Requests.destined (carAt (w .cars) car) stop) t
       (λ q. or-left (Changes.noSuchCar w car) (unloaded (w .«stop_count») stop) (q .1 .0)) (λ f. record { sound = f .sound; tame = f .tame }) refl
-  taken-kept (Record.Enable car enabled) s =
-      order w c j h used (Modes.orderChecks w car) car (Modes.marked (carAt (w .cars) car) enabled) s (λ q. q .1 .0)
+  changed-kept (Record.Enable car enabled) t s =
+      order w c j h used (Modes.orderChecks w car) car (Modes.marked (carAt (w .cars) car) enabled) t (λ q. q .1 .0)
       (λ f. record { sound = f .sound; tame = f .tame }) refl
-  taken-kept (Record.Tick dt) s = tick-kept w c j h used dt u s
-  taken-kept Record.Start s = plain w c j h used (Changes.startChecks w) _ s (λ q. h)
+  changed-kept Record.Start t s = plain w c j h used (Changes.startChecks w) _ t (λ q. h)
 
 read-kept : (w : World) (c : Call) (j : List ℕ) → Keeps j w → putsManual w c ≡ false → Unbroken w → (serves : List ℕ) (r : Read) → Reads (headWord c) r
     → Gives w c j (readBy w (c .log) serves r)
 read-kept w c j h p u serves (Read.Refused r) s = refuses w c j h 0 r
-read-kept w c j h p u serves (Read.Accepted read used) s = taken-kept w c j h p u used serves read s
+read-kept w c j h p u serves (Read.Accepted read used) s = changed-kept w c j h p used serves read (s .0) (s .1)
+read-kept w c j h p u serves (Read.Tick dt used) s = tick-kept w c j h used dt u s
 
 record-kept : (w : World) (c : Call) (j : List ℕ) → Keeps j w → putsManual w c ≡ false → Gives w c j (recordOf w (c .words) (c .log))
 unfolding recordOf

@@ -27,7 +27,7 @@ use Rattle.tape_records.specs.declared.Decoded.{Decoded}
 use Rattle.tape_records.specs.declared.Read.{Read}
 use Rattle.tape_records.specs.declared.Read.the-variants as Read
 use Rattle.tape_records.specs.declared.Record.{Record}
-use Rattle.tape_records.specs.declared.Record.the-variants.{Line, Stop, Car, Rider, Send, Mode, ManualSpeed, DoorCommand, HallCall, Destination, Enable, Tick, Start}
+use Rattle.tape_records.specs.declared.Record.the-variants.{Line, Stop, Car, Rider, Send, Mode, ManualSpeed, DoorCommand, HallCall, Destination, Enable, Start}
 use Rattle.tape.proofs.Bounds.{in-bounds}
 use Rattle.changes.specs.Changes as Changes
 use Rattle.loads.specs.Loads.{lineRow, lineChecks, withLine, loadLine, stopChecks, withStop, loadStop, carChecks, loadCar, riderChecks, withRider, loadRider}
@@ -40,7 +40,8 @@ use Rattle.log.proofs.Writing.{sets-after}
 use Rattle.tick.specs.Tick.{tickWords}
 use Rattle.tick.specs.Room.{roomOf, WordsFit}
 use Rattle.tick.proofs.Proved.{words-fit}
-use Rattle.record.specs.Record.{Outcome, accepted, refused, changed, tickChecks, ticked, tickOnce, taken, readBy, recordOf}
+use Rattle.record_kinds.specs.Kinds.{changeBy}
+use Rattle.record.specs.Record.{Outcome, accepted, refused, changed, checksOfTick, ticked, tickOnce, readBy, recordOf}
 use Rattle.conditions.specs.Conditions.{Kept, FirstCondition, Answers, stateChecks, behind, checksIn, conditions, OnItsCondition}
 
 module _ (w : World) (words lent : List ℕ) where
@@ -119,13 +120,13 @@ module _ (w : World) (words lent : List ℕ) where
   some-fine : {cs : List Check} {o : Outcome} {f g : Type 0} → (g → f) → Fine cs f o → Fine cs g o
   some-fine u h = record { answers = h .answers; kept = λ x. h .kept (u x) }
 
-  fine-tick : (used : ℕ) (dt : Float) → Fine (tickChecks w lent) (Fits (Tick dt) used) (tickOnce w lent used dt)
-  unfolding tickOnce Answers
+  fine-tick : (used : ℕ) (dt : Float) → Fine (checksOfTick w lent) (InBounds words (Read.Tick dt used)) (tickOnce w lent used dt)
+  unfolding tickOnce Answers roomOf
   fine-tick used dt =
       fine-check (not (w .started)) NotNow _ _ (λ s. fine-check (leb (2 ^ 28) (w .ticks)) LastTick _ _ (λ l. fine-check (ltb (length lent) (roomOf w)) LogShort [] (ticked w lent used dt) (λ r.
       record { answers = refl; kept = λ g. ticked-kept used dt (ltb-false (length lent) (roomOf w) r) (g .0, g .1) (g .2) })))
 
-  fine-taken : (used : ℕ) (serves : List ℕ) (read : Record) → Fine (stateChecks w lent serves read) (Fits read used) (taken w lent used serves read)
+  fine-taken : (used : ℕ) (serves : List ℕ) (read : Record) → Fine (stateChecks w serves read) (Fits read used) (changed lent used (changeBy w serves read))
   unfolding loadLine loadStop loadCar loadRider send setMode setManualSpeed queueCommand pressHallCall pushDestination setEnabled start
   fine-taken used serves (Line number kind listed count) =
       let row = lineRow kind listed count serves in some-fine (λ g. (g .0, g .1)) (fine-changed used (lineChecks w number row) (withLine w number row))
@@ -145,13 +146,13 @@ module _ (w : World) (words lent : List ℕ) where
       some-fine (λ g. (g .0, g .1)) (fine-changed used (destinationChecks w car stop) (withCar w car (destined (carAt (w .cars) car) stop)))
   fine-taken used serves (Enable car enabled) =
       some-fine (λ g. (g .0, g .1)) (fine-changed used (orderChecks w car) (withCar w car (marked (carAt (w .cars) car) enabled)))
-  fine-taken used serves (Tick dt) = fine-tick used dt
   fine-taken used serves Start = some-fine (λ g. (g .0, g .1)) (fine-changed used (startChecks w) (withStart w))
 
   fine-read : (serves : List ℕ) (read : Read) → Fine (behind w lent serves read) (InBounds words read) (readBy w lent serves read)
   unfolding Answers
   fine-read serves (Read.Refused r) = record { answers = inl (refl, refl); kept = λ g. refused-kept r }
   fine-read serves (Read.Accepted read used) = fine-taken used serves read
+  fine-read serves (Read.Tick dt used) = fine-tick used dt
 
   -- ---- the tape's checks before it
 

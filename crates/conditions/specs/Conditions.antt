@@ -18,7 +18,7 @@ use Rattle.tape_records.specs.declared.Decoded.{Decoded}
 use Rattle.tape_records.specs.declared.Read.{Read}
 use Rattle.tape_records.specs.declared.Read.the-variants as Read
 use Rattle.tape_records.specs.declared.Record.{Record}
-use Rattle.tape_records.specs.declared.Record.the-variants.{Line, Stop, Car, Rider, Send, Mode, ManualSpeed, DoorCommand, HallCall, Destination, Enable, Tick, Start}
+use Rattle.tape_records.specs.declared.Record.the-variants.{Line, Stop, Car, Rider, Send, Mode, ManualSpeed, DoorCommand, HallCall, Destination, Enable, Start}
 use Rattle.loads.specs.Loads.{lineRow, lineChecks, stopChecks, carChecks, riderChecks}
 use Rattle.changes.specs.Changes.{startChecks}
 use Rattle.orders.specs.Orders.{sendChecks}
@@ -26,7 +26,7 @@ use Rattle.modes.specs.Modes.{orderChecks}
 use Rattle.requests.specs.Requests.{commandChecks, callChecks, destinationChecks}
 use Rattle.record.specs.declared.Answer.{Answer}
 use Rattle.record.specs.declared.Answer.the-variants.{Accepted, Refused}
-use Rattle.record.specs.Record.{Outcome, isAccepted, usedOf, writtenOf, tickChecks, recordOf}
+use Rattle.record.specs.Record.{Outcome, isAccepted, usedOf, writtenOf, checksOfTick, recordOf}
 
 -- ---- the certificate's first condition. "An accepted record or one numbered refusal" is the type of the answer; that every call ends is in the contract of `record`, as of every function.
 
@@ -51,24 +51,24 @@ FirstCondition = (w : World) (words log : List ℕ) → Kept w words log (record
 -- ---- "A refusal is given on its condition and on no other": what each condition is, `tape`, `loads` and `orders` say; here is their order, and that nothing else refuses
 
 -- the conditions that the state brings, in the order of their numbers
-abbrev pub stateChecks : World → List ℕ → List ℕ → Record → List Check
-stateChecks w log serves (Line number kind listed count) = lineChecks w number (lineRow kind listed count serves)
-stateChecks w log serves (Stop number position) = stopChecks w number
-stateChecks w log serves (Car number plan) = carChecks w number plan
-stateChecks w log serves (Rider number rider) = riderChecks w number rider
-stateChecks w log serves (Send car stop reposition) = sendChecks w car stop
-stateChecks w log serves (Mode car mode) = orderChecks w car
-stateChecks w log serves (ManualSpeed car speed) = orderChecks w car
-stateChecks w log serves (DoorCommand car command) = commandChecks w car
-stateChecks w log serves (HallCall stop down) = callChecks w stop
-stateChecks w log serves (Destination car stop) = destinationChecks w car stop
-stateChecks w log serves (Enable car enabled) = orderChecks w car
-stateChecks w log serves (Tick dt) = tickChecks w log
-stateChecks w log serves Start = startChecks w
+abbrev pub stateChecks : World → List ℕ → Record → List Check
+stateChecks w serves (Line number kind listed count) = lineChecks w number (lineRow kind listed count serves)
+stateChecks w serves (Stop number position) = stopChecks w number
+stateChecks w serves (Car number plan) = carChecks w number plan
+stateChecks w serves (Rider number rider) = riderChecks w number rider
+stateChecks w serves (Send car stop reposition) = sendChecks w car stop
+stateChecks w serves (Mode car mode) = orderChecks w car
+stateChecks w serves (ManualSpeed car speed) = orderChecks w car
+stateChecks w serves (DoorCommand car command) = commandChecks w car
+stateChecks w serves (HallCall stop down) = callChecks w stop
+stateChecks w serves (Destination car stop) = destinationChecks w car stop
+stateChecks w serves (Enable car enabled) = orderChecks w car
+stateChecks w serves Start = startChecks w
 
 abbrev pub behind : World → List ℕ → List ℕ → Read → List Check
 behind w log serves (Read.Refused r) = check r true ∷ []
-behind w log serves (Read.Accepted read used) = stateChecks w log serves read
+behind w log serves (Read.Accepted read used) = stateChecks w serves read
+behind w log serves (Read.Tick dt used) = checksOfTick w log
 
 -- a kind's conditions: those that the input brings, then the state's
 abbrev pub checksIn : World → List ℕ → ℕ → List Kind → List Check

@@ -44,7 +44,8 @@ use Rattle.modes.specs.Modes.{orderChecks, inMode, atSpeed, marked, setMode, se
 use Rattle.requests.specs.Requests.{commandChecks, callChecks, destinationChecks, commanded, destined, queueCommand, pressHallCall, pushDestination}
 use Rattle.record.specs.declared.Answer.{Answer}
 use Rattle.record.specs.declared.Answer.the-variants.{Accepted, Refused}
-use Rattle.record.specs.Record.{Outcome, refused, unless, changed, tickChecks, ticked, tickOnce, taken, readBy, recordOf}
+use Rattle.record_kinds.specs.Kinds.{changeBy}
+use Rattle.record.specs.Record.{Outcome, refused, unless, changed, checksOfTick, ticked, tickOnce, readBy, recordOf}
 use Rattle.laws.proofs.Choices.{both, cases}
 use Rattle.never_broken.proofs.Numbers.{table-set, line-stays, rider-stays, press-stays}
 use Rattle.never_broken.proofs.Turns.{QueueIn, CarIn, car-in-stays}
@@ -314,27 +315,27 @@ module _ (w : World) (h : Sound w) (log : List ℕ) (used : ℕ) where
   tick-keeps : (dt : Float) → Good (tickOnce w log used dt)
   unfolding tickOnce
   tick-keeps dt =
-      unless-good (tickChecks w log) w log (ticked w log used dt) h refl
+      unless-good (checksOfTick w log) w log (ticked w log used dt) h refl
       (λ q. record { world = tick-sound w dt (leb-false (2 ^ 28) (w .ticks) (q .1 .0)) h; answer = omega arith })
 
-  taken-good : (serves : List ℕ) (read : Record) → Good (taken w log used serves read)
-  taken-good serves (Record.Line number kind listed count) = line-keeps number kind listed count serves
-  taken-good serves (Record.Stop number position) = stop-keeps number position
-  taken-good serves (Record.Car number plan) = car-keeps number plan
-  taken-good serves (Record.Rider number rider) = rider-keeps number rider
-  taken-good serves (Record.Send car stop reposition) = send-keeps car stop reposition
-  taken-good serves (Record.Mode car mode) = mode-keeps car mode
-  taken-good serves (Record.ManualSpeed car speed) = speed-keeps car speed
-  taken-good serves (Record.DoorCommand car command) = command-keeps car command
-  taken-good serves (Record.HallCall stop down) = press-keeps stop down
-  taken-good serves (Record.Destination car stop) = destination-keeps car stop
-  taken-good serves (Record.Enable car enabled) = enable-keeps car enabled
-  taken-good serves (Record.Tick dt) = tick-keeps dt
-  taken-good serves Record.Start = start-keeps
+  changed-good : (serves : List ℕ) (read : Record) → Good (changed log used (changeBy w serves read))
+  changed-good serves (Record.Line number kind listed count) = line-keeps number kind listed count serves
+  changed-good serves (Record.Stop number position) = stop-keeps number position
+  changed-good serves (Record.Car number plan) = car-keeps number plan
+  changed-good serves (Record.Rider number rider) = rider-keeps number rider
+  changed-good serves (Record.Send car stop reposition) = send-keeps car stop reposition
+  changed-good serves (Record.Mode car mode) = mode-keeps car mode
+  changed-good serves (Record.ManualSpeed car speed) = speed-keeps car speed
+  changed-good serves (Record.DoorCommand car command) = command-keeps car command
+  changed-good serves (Record.HallCall stop down) = press-keeps stop down
+  changed-good serves (Record.Destination car stop) = destination-keeps car stop
+  changed-good serves (Record.Enable car enabled) = enable-keeps car enabled
+  changed-good serves Record.Start = start-keeps
 
 read-good : (w : World) (words log serves : List ℕ) (read : Read) → Sound w → InBounds words read → Good (readBy w log serves read)
 read-good w words log serves (Read.Refused r) h b = record { world = h; answer = b .0 }
-read-good w words log serves (Read.Accepted read used) h b = taken-good w h log used serves read
+read-good w words log serves (Read.Accepted read used) h b = changed-good w h log used serves read
+read-good w words log serves (Read.Tick dt used) h b = tick-keeps w h log used dt
 
 pub record-good : (w : World) (words log : List ℕ) → Sound w → Good (recordOf w words log)
 unfolding recordOf Facts

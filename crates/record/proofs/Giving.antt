@@ -1,31 +1,34 @@
 -- What a call gives, case by case. Assumes nothing.
-use mathlib.Core.Path.{_≡_, refl, sym, _∙_, ap, subst}
-use mathlib.Core.Bool.{Bool, true, false, not, true≢false, cond}
-use mathlib.Core.List.{List}
-use native.Mathlib.Nat.{mul-le-mul}
+use mathlib.Core.Path.{_≡_, refl, sym, _∙_, ap}
+use mathlib.Core.Bool.{Bool, true, false, not, cond}
+use mathlib.Core.List.{List, [], _∷_}
 use native.Mathlib.Omega.{arith}
-use Prim.Native.Nat.{ℕ, _+_, _*_, _^_, _≤_, _<_}
+use Prim.Native.Nat.{ℕ, _^_, _≤_}
+use lib.Dec.{leb, ltb}
 use lib.ListN.{length}
 use lib.Ieee.{Float}
-use borrow.Author.Tests.{lt-ltb, le-ltb, le-leb, lt-leb}
-use Rattle.sound.specs.Sound.{broken, countsBroken}
+use borrow.Author.Tests.{ltb-false}
+use Rattle.sound.specs.Sound.{broken}
+use Rattle.world.specs.Refusal.{Check}
 use Rattle.world.specs.declared.World.{World}
-use Rattle.sound.proofs.Unbroken.{counts-fit}
 use Rattle.world.specs.declared.refusal.Refusal.{Refusal}
 use Rattle.world.specs.declared.refusal.Refusal.the-variants.{BrokenWorld, NotNow, LastTick, LogShort}
 use Rattle.tape.specs.Tape.{decoded}
+use Rattle.tape_records.specs.declared.Read.{Read}
 use Rattle.tape_records.specs.declared.Read.the-variants as Read
+use Rattle.tape_records.specs.declared.Decoded.{Decoded}
 use Rattle.tape_records.specs.declared.Record.{Record}
 use Rattle.changes.specs.declared.Changed.{Changed}
+use Rattle.changes.specs.declared.Taken.{Taken}
+use Rattle.changes.specs.declared.Taken.the-variants as Taken
+use Rattle.record_kinds.specs.Kinds.{changeBy, takenUnless, tickTaken}
 use Rattle.log.specs.Log.{Wrote}
 use Rattle.tick.specs.Tick.{tickWorld, tickWords}
-use Rattle.tick.specs.Room.{roomOf, WordsFit}
+use Rattle.tick.specs.Room.{roomOf, roomFor, WordsFit}
 use Rattle.tick.proofs.Proved.{words-fit}
 use Rattle.record.specs.declared.Recorded.{Recorded}
 use Rattle.record.specs.declared.Answer.the-variants.{Accepted, Refused}
-use Rattle.record.specs.Record.{Outcome, Gives, refused, answerOf, changed, tickOnce, taken, recordOf}
-use Rattle.record.specs.Parts.{Few, Asks, readFrom}
-use Rattle.record.specs.declared.Asked.{Asked}
+use Rattle.record.specs.Record.{Outcome, Gives, refused, unless, answerOf, checksOfTick, ticked, tickOnce, readBy, recordOf}
 
 -- a refusal: the answer, and the world as it was
 abbrev pub Says : Recorded → World → Refusal → Type 0
@@ -34,98 +37,70 @@ Says r w f = (r .answer ≡ Refused f) × (r .world ≡ w)
 refusal-gives : {r : Recorded} {w : World} {log : List ℕ} {f : Refusal} → Says r w f → Gives r log (refused w log f)
 refusal-gives h = record { answer = h .0; world = h .1; log = refl }
 
--- ---- what becomes of a tick's record
-
-module _ (w : World) where
-  -- it is refused with f
-  abbrev Declines : Asked → Refusal → Type 0
-  Declines a f = (a .taken ≡ false) × (a .refusal ≡ f)
-
-  declines : {a : Asked} {f : Refusal} {room : ℕ} {o : List ℕ → Outcome} → ((l : List ℕ) → length l ≡ room → o l ≡ refused w l f) → Declines a f → Asks w room a o
-  declines e h = record { same = λ l z. rw (h .0, h .1) (e l z); fits = λ t. absurd (true≢false (sym t ∙ h .0)) }
-
-  pub tick-not-now : {a : Asked} (room used : ℕ) (dt : Float) → not (w .started) ≡ true → Declines a NotNow → Asks w room a (λ l. tickOnce w l used dt)
-  unfolding tickOnce
-  tick-not-now room used dt e h = declines (λ l z. rw e) h
-
-  pub tick-last : {a : Asked} (room used : ℕ) (dt : Float) →
-      not (w .started) ≡ false → 2 ^ 28 ≤ w .ticks → Declines a LastTick → Asks w room a (λ l. tickOnce w l used dt)
-  unfolding tickOnce
-  tick-last room used dt e t h = declines (λ l z. rw (e, le-leb (2 ^ 28) (w .ticks) t)) h
-
-  pub tick-short : {a : Asked} (room used : ℕ) (dt : Float) →
-      not (w .started) ≡ false → w .ticks < 2 ^ 28 → room < roomOf w → Declines a LogShort → Asks w room a (λ l. tickOnce w l used dt)
-  unfolding tickOnce
-  tick-short room used dt e t s h = declines (λ l z. rw (e, lt-leb (2 ^ 28) (w .ticks) t, z, lt-ltb room (roomOf w) s)) h
-
-  pub tick-taken : (room used : ℕ) (dt : Float) (f : Refusal) → not (w .started) ≡ false → w .ticks < 2 ^ 28 → roomOf w ≤ room
-      → Asks w room (record { taken = true; refusal = f; dt = dt; used = used }) (λ l. tickOnce w l used dt)
-  unfolding tickOnce
-  tick-taken room used dt f e t s =
-      record { same = λ l z. rw (e, lt-leb (2 ^ 28) (w .ticks) t, z, le-ltb room (roomOf w) s); fits = λ y. s }
-
-  pub ask-refused : {a : Asked} (words : List ℕ) {room : ℕ} {f : Refusal} → decoded words .read ≡ Read.Refused f → Declines a f → Asks w room a (readFrom w words)
-  ask-refused words d h = declines (λ l z. rw d) h
-
-  pub ask-taken : {a : Asked} (words : List ℕ) {room : ℕ} {read : Record} {used : ℕ} →
-      decoded words .read ≡ Read.Accepted read used → Asks w room a (λ l. taken w l used (decoded words .serves) read) → Asks w room a (readFrom w words)
-  ask-taken {a} words {room} {read} {used} d h =
-      record { same = λ l z. rw d (h .same l z); fits = h .fits }
-
 module _ (w : World) (log : List ℕ) where
-  -- a first check that holds, and one that does not
-  holds : {r : Recorded} {b : Bool} {f : Refusal} (o : Outcome) → b ≡ true → Says r w f → Gives r log (cond b (refused w log f) o)
-  holds o e h = rw e (refusal-gives h)
+  -- ---- what the state says of a tick
 
-  passes : {r : Recorded} {left : List ℕ} {b : Bool} (f : Refusal) {o : Outcome} → b ≡ false → Gives r left o → Gives r left (cond b (refused w log f) o)
-  passes f e h = rw e h
+  abbrev pub tickSays : Taken
+  tickSays = tickTaken (w .started) (w .ticks) (w .«car_count») (w .«stop_count») (length log)
 
-  -- a record that writes no word
-  pub as-changed : {r : Recorded} (c : Changed) (used : ℕ) {o : Outcome} →
-      changed log used c ≡ o → (r .answer ≡ answerOf (c .taken) used) × (r .world ≡ c .world) → Gives r log o
-  as-changed {r} c used e h = subst (λ (x : Outcome). Gives r log x) e (record { answer = h .0; world = h .1; log = refl })
+  abbrev saidOf : Outcome → Taken → Outcome
+  saidOf o Taken.Accepted = o
+  saidOf o (Taken.Refused f) = refused w log f
 
-  -- what was asked, done
-  pub declined : {a : Asked} {r : Recorded} (words : List ℕ) → Asks w (length log) a (readFrom w words) → a .taken ≡ false → Says r w (a .refusal) → Gives r log (readFrom w words log)
-  declined words k e h = rw (k .same log refl, e) (refusal-gives h)
+  said : (o : Outcome) (cs : List Check) (t : Taken) → takenUnless cs ≡ t → unless cs w log o ≡ saidOf o t
+  said o [] t e = rw (← e)
+  said o (c ∷ cs) t e = by (c .holds) (λ h. said o cs t h) e
+    where
+      by : (b : Bool) → (takenUnless cs ≡ t → unless cs w log o ≡ saidOf o t)
+          → cond b (Taken.Refused (c .refusal)) (takenUnless cs) ≡ t → cond b (refused w log (c .refusal)) (unless cs w log o) ≡ saidOf o t
+      by true k h = rw (← h)
+      by false k h = k h
 
-  pub ticked-once : {a : Asked} {r : Recorded} {left : List ℕ} {at : ℕ} (words : List ℕ) → Asks w (length log) a (readFrom w words) → a .taken ≡ true
-      → r .answer ≡ Accepted (a .used) at → r .world ≡ tickWorld w (a .dt) → Wrote log 0 (tickWords w (a .dt)) left at → Gives r left (readFrom w words log)
+  tick-said : (used : ℕ) (dt : Float) (t : Taken) → tickSays ≡ t → tickOnce w log used dt ≡ saidOf (ticked w log used dt) t
+  unfolding tickOnce tickTaken
+  tick-said used dt t e = said (ticked w log used dt) (checksOfTick w log) t e
+
+  -- a tick that is taken has room
+  has-room : tickSays ≡ Taken.Accepted → roomOf w ≤ length log
+  unfolding tickTaken roomOf
+  has-room e = by (not (w .started)) (leb (2 ^ 28) (w .ticks)) (ltb (length log) (roomFor (w .«car_count») (w .«stop_count»))) refl e
+    where
+      by : (a b c : Bool) → ltb (length log) (roomFor (w .«car_count») (w .«stop_count»)) ≡ c
+          → cond a (Taken.Refused NotNow) (cond b (Taken.Refused LastTick) (cond c (Taken.Refused LogShort) Taken.Accepted)) ≡ Taken.Accepted → roomOf w ≤ length log
+      by true b c s q = let z : _≡_ {A = ℕ} 0 1 = cc in absurd (omega arith)
+      by false true c s q = let z : _≡_ {A = ℕ} 0 1 = cc in absurd (omega arith)
+      by false false true s q = let z : _≡_ {A = ℕ} 0 1 = cc in absurd (omega arith)
+      by false false false s q = ltb-false _ _ s
+
+  -- ---- what was read
+
+  pub is-refused : {r : Recorded} (serves : List ℕ) {read : Read} {f : Refusal} → read ≡ Read.Refused f → Says r w f → Gives r log (readBy w log serves read)
+  is-refused serves d h = rw d (refusal-gives h)
+
+  pub is-changed : {r : Recorded} (serves : List ℕ) {read : Read} {found : Record} {used : ℕ} {c : Changed} → read ≡ Read.Accepted found used → c ≡ changeBy w serves found
+      → (r .answer ≡ answerOf (c .taken) used) × (r .world ≡ c .world) → Gives r log (readBy w log serves read)
+  is-changed serves d e h = rw (d, ← e) (record { answer = h .0; world = h .1; log = refl })
+
+  pub tick-refused : {r : Recorded} (serves : List ℕ) {read : Read} {used : ℕ} {dt : Float} {f : Refusal} → read ≡ Read.Tick dt used → tickSays ≡ Taken.Refused f
+      → Says r w f → Gives r log (readBy w log serves read)
+  tick-refused serves {used = used} {dt = dt} {f = f} d t h = rw (d, tick-said used dt (Taken.Refused f) t) (refusal-gives h)
+
+  pub tick-taken : {r : Recorded} {left : List ℕ} {at : ℕ} (serves : List ℕ) {read : Read} {used : ℕ} {dt : Float} → read ≡ Read.Tick dt used
+      → tickSays ≡ Taken.Accepted → r .answer ≡ Accepted used at → r .world ≡ tickWorld w dt → Wrote log 0 (tickWords w dt) left at
+      → Gives r left (readBy w log serves read)
   unfolding WordsFit
-  ticked-once {a} {at = at} words k e n m h =
-      let fits : length (tickWords w (a .dt)) ≤ roomOf w = words-fit w (a .dt) in
-      let all : at ≡ length (tickWords w (a .dt)) = omega (arith, h .next, fits, k .fits e) in
-      rw (k .same log refl, e) (record { answer = n ∙ ap (λ (x : ℕ). Accepted (a .used) x) all; world = m; log = h .list })
+  tick-taken {at = at} serves {used = used} {dt = dt} d t n m h =
+      let fits : length (tickWords w dt) ≤ roomOf w = words-fit w dt in
+      let all : at ≡ length (tickWords w dt) = omega (arith, h .next, fits, has-room t) in
+      rw (d, tick-said used dt Taken.Accepted t) (record { answer = n ∙ ap (λ (x : ℕ). Accepted used x) all; world = m; log = h .list })
 
   -- ---- the record call
 
   pub is-broken : {r : Recorded} (words : List ℕ) → broken w ≡ true → Says r w BrokenWorld → Gives r log (recordOf w words log)
   unfolding recordOf
-  is-broken words e h = holds _ e h
+  is-broken words e h = rw e (refusal-gives h)
 
-  pub is-whole : {r : Recorded} {left : List ℕ} (words : List ℕ) → broken w ≡ false → Gives r left (readFrom w words log) → Gives r left (recordOf w words log)
+  pub is-whole : {r : Recorded} {left : List ℕ} (words : List ℕ) {d : Decoded} → broken w ≡ false → d ≡ decoded words → Gives r left (readBy w log (d .serves) (d .read))
+      → Gives r left (recordOf w words log)
   unfolding recordOf
-  is-whole words e h = passes BrokenWorld e h
-
-  pub is-refused : {r : Recorded} (words : List ℕ) {f : Refusal} → decoded words .read ≡ Read.Refused f → Says r w f → Gives r log (readFrom w words log)
-  is-refused words d h = rw d (refusal-gives h)
-
-  pub is-taken : {r : Recorded} {left : List ℕ} (words : List ℕ) {read : Record} {used : ℕ} →
-      decoded words .read ≡ Read.Accepted read used → Gives r left (taken w log used (decoded words .serves) read) → Gives r left (readFrom w words log)
-  is-taken words d h = rw d h
-
--- ---- a world that is not broken
-
-broken-counts : (w : World) → countsBroken w ≡ true → broken w ≡ true
-unfolding broken
-broken-counts w e = rw e refl
-
-whole-counts : (w : World) (b : Bool) → countsBroken w ≡ b → broken w ≡ false → b ≡ false
-whole-counts w true e h = absurd (true≢false (sym (broken-counts w e) ∙ h))
-whole-counts w false e h = refl
-
-pub few : (w : World) → broken w ≡ false → Few w
-few w h = let n = counts-fit w (whole-counts w (countsBroken w) refl h) in (n .cars, n .stops)
-
-pub room-small : (a b : ℕ) → a ≤ 16 → b ≤ 64 → a * (b + 14) ≤ 16 * 78
-room-small a b x y = mul-le-mul {n₁ = a} {m₁ = b + 14} {n₂ = 16} {m₂ = 78} x (omega arith)
+  is-whole words e d h = rw (e, ← d) h

@@ -1,9 +1,8 @@
 -- The record call: one record of a tape, from the world, the words and the log to the answer, the next world and the log.
 use mathlib.Core.Path.{_≡_}
-use mathlib.Core.Bool.{Bool, true, false, not, cond}
+use mathlib.Core.Bool.{Bool, true, false, cond}
 use mathlib.Core.List.{List, [], _∷_}
-use Prim.Native.Nat.{ℕ, _^_}
-use lib.Dec.{leb, ltb}
+use Prim.Native.Nat.{ℕ}
 use lib.ListN.{length}
 use lib.Seq.{sets}
 use lib.Ieee.{Float}
@@ -11,22 +10,15 @@ use Rattle.sound.specs.Sound.{broken}
 use Rattle.world.specs.Refusal.{Check, check}
 use Rattle.world.specs.declared.World.{World}
 use Rattle.world.specs.declared.refusal.Refusal.{Refusal}
-use Rattle.world.specs.declared.refusal.Refusal.the-variants.{BrokenWorld, NotNow, LastTick, LogShort}
+use Rattle.world.specs.declared.refusal.Refusal.the-variants.{BrokenWorld}
 use Rattle.tape.specs.Tape.{decoded}
 use Rattle.tape_records.specs.declared.Read.{Read}
 use Rattle.tape_records.specs.declared.Read.the-variants as Read
-use Rattle.tape_records.specs.declared.Record.{Record}
-use Rattle.tape_records.specs.declared.Record.the-variants.{Line, Stop, Car, Rider, Send, Mode, ManualSpeed, DoorCommand, HallCall, Destination, Enable, Tick, Start}
-use Rattle.loads.specs.Loads.{loadLine, loadStop, loadCar, loadRider}
-use Rattle.changes.specs.Changes.{start}
 use Rattle.changes.specs.declared.Changed.{Changed}
 use Rattle.changes.specs.declared.Taken.{Taken}
 use Rattle.changes.specs.declared.Taken.the-variants as Taken
-use Rattle.orders.specs.Orders.{send}
-use Rattle.modes.specs.Modes.{setMode, setManualSpeed, setEnabled}
-use Rattle.requests.specs.Requests.{queueCommand, pressHallCall, pushDestination}
+use Rattle.record_kinds.specs.Kinds.{changeBy, tickChecks}
 use Rattle.tick.specs.Tick.{tickWorld, tickWords}
-use Rattle.tick.specs.Room.{roomOf}
 use Rattle.record.specs.declared.Recorded.{Recorded}
 use Rattle.record.specs.declared.Answer.{Answer}
 use Rattle.record.specs.declared.Answer.the-variants.{Accepted, Refused}
@@ -83,42 +75,23 @@ changed log used c = record { answer = answerOf (c .taken) used; world = c .worl
 
 -- ---- C tick: "A tick writes its words from the log's start; later words stay."
 
--- 6: before start. 11: "a tick when tick 268,435,455 has been made (the first is 0)". 12: "the lent log is shorter than cars × (stops + 14) + 1"
-abbrev pub tickChecks : World → List ℕ → List Check
-tickChecks w log =
-    check NotNow (not (w .started))
-    ∷ check LastTick (leb (2 ^ 28) (w .ticks))
-    ∷ check LogShort (ltb (length log) (roomOf w))
-    ∷ []
+-- 6, 11, 12
+abbrev pub checksOfTick : World → List ℕ → List Check
+checksOfTick w log = tickChecks (w .started) (w .ticks) (w .«car_count») (w .«stop_count») (length log)
 
 abbrev pub ticked : World → List ℕ → ℕ → Float → Outcome
 ticked w log used dt = accepted used (length (tickWords w dt)) (tickWorld w dt) (sets log 0 (tickWords w dt))
 
 unfoldable pub tickOnce : World → List ℕ → ℕ → Float → Outcome
-tickOnce w log used dt = unless (tickChecks w log) w log (ticked w log used dt)
+tickOnce w log used dt = unless (checksOfTick w log) w log (ticked w log used dt)
 
 -- ---- the record call
-
--- a record that was read, and the words that it takes
-abbrev pub taken : World → List ℕ → ℕ → List ℕ → Record → Outcome
-taken w log used serves (Line number kind listed count) = changed log used (loadLine w number kind listed count serves)
-taken w log used serves (Stop number position) = changed log used (loadStop w number position)
-taken w log used serves (Car number plan) = changed log used (loadCar w number plan)
-taken w log used serves (Rider number rider) = changed log used (loadRider w number rider)
-taken w log used serves (Send car stop reposition) = changed log used (send w car stop reposition)
-taken w log used serves (Mode car mode) = changed log used (setMode w car mode)
-taken w log used serves (ManualSpeed car speed) = changed log used (setManualSpeed w car speed)
-taken w log used serves (DoorCommand car command) = changed log used (queueCommand w car command)
-taken w log used serves (HallCall stop down) = changed log used (pressHallCall w stop down)
-taken w log used serves (Destination car stop) = changed log used (pushDestination w car stop)
-taken w log used serves (Enable car enabled) = changed log used (setEnabled w car enabled)
-taken w log used serves (Tick dt) = tickOnce w log used dt
-taken w log used serves Start = changed log used (start w)
 
 -- refusals 1 to 4, or the record
 abbrev pub readBy : World → List ℕ → List ℕ → Read → Outcome
 readBy w log serves (Read.Refused r) = refused w log r
-readBy w log serves (Read.Accepted read used) = taken w log used serves read
+readBy w log serves (Read.Accepted read used) = changed log used (changeBy w serves read)
+readBy w log serves (Read.Tick dt used) = tickOnce w log used dt
 
 -- "Checked in the order of the numbers": 0, then what the tape says, then what the state says
 unfoldable pub recordOf : World → List ℕ → List ℕ → Outcome

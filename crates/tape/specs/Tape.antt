@@ -14,10 +14,6 @@ use Rattle.tape_records.specs.Answers.{refused, unless, Deed, answer}
 use Rattle.tape_loads.specs.LoadRecords.{lineRecord, stopRecord, carRecord, riderRecord}
 use Rattle.tape_orders.specs.OrderRecords.{sendRecord, modeRecord, manualSpeedRecord, doorCommandRecord, hallCallRecord, destinationRecord, enableRecord, tickRecord, startRecord}
 
--- whether the words begin with a tick's head: the first word's kind is C. Where there is no word, 0 stands for it, and kind 0 is none.
-abbrev pub beginsTick : List ℕ → Bool
-beginsTick ws = eqb (kindOf (getD ws 0 0)) 12
-
 -- ---- the kinds by their numbers; every other kind is refused
 
 pub record Kind : Type 0 where

@@ -2,22 +2,11 @@
 pub mod facts; // claims about the definitions
 
 ghost use mathlib.Core.Path.{_≡_};
-ghost use Rattle.tape.specs.Tape.{beginsTick, decoded};
+ghost use Rattle.tape.specs.Tape.{decoded};
 use fields::head::head_of;
 use tape_records::Decoded;
 use tape_records::refused;
 use world::refusal::Refusal;
-
-// Whether the words begin with a tick's head.
-pub fn is_tick(words: &[u32]) -> bool
-    ensures { λ r. ⌜ r ≡ beginsTick (now (words .entry)) ⌝ }
-{
-    if words.len() > 0 {
-        let head = head_of(words[0]);
-        return head.kind == 12;
-    }
-    false
-}
 
 // The record that the words begin with.
 pub fn decode(words: &[u32]) -> Decoded

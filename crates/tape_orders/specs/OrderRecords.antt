@@ -17,7 +17,8 @@ use Rattle.world.specs.declared.SpeedOption.the-variants.{NoSpeed, Speed}
 use Rattle.fields.specs.declared.head.Head.{Head}
 use Rattle.fields.specs.Fields.{floatAt, rawZeroAt, outsideSize, outsideAboveZero}
 use Rattle.tape_records.specs.declared.Record.the-variants as Record
-use Rattle.tape_records.specs.Answers.{notStop, nonzero, thousand, accepted, Deed}
+use Rattle.tape_records.specs.Answers.{notStop, nonzero, thousand, alone, accepted, Deed}
+use Rattle.tape_records.specs.declared.Read.the-variants.{Tick}
 
 -- ---- 5 send: n car, s stop, v 0 go, 1 reposition
 
@@ -113,7 +114,7 @@ tickRecord h ws = record {
       ∷ check FieldOutside (anyFieldSet h)
       ∷ check FloatOutside (outsideAboveZero (floatAt ws 1) F64.one)
       ∷ [];
-  done = accepted (Record.Tick (floatAt ws 1)) 3;
+  done = alone (Tick (floatAt ws 1) 3);
 }
 
 -- ---- D start

@@ -9,8 +9,10 @@ use fields::body::outside_size;
 use fields::body::raw_zero_at;
 use fields::head::Head;
 use tape_records::Decoded;
+use tape_records::Read;
 use tape_records::Record;
 use tape_records::checked;
+use tape_records::checked_read;
 use world::ServiceMode;
 use world::SpeedOption;
 
@@ -138,8 +140,8 @@ pub fn decode_tick(head: Head, words: &[u32]) -> Decoded
     let field_outside = any_field_set(head);
     let dt = float_at(words, 1);
     let float_outside = outside_above_zero(dt, 1.0);
-    let record = Record::Tick { dt };
-    checked(words.len() < 3, field_outside, float_outside, record, 3)
+    let read = Read::Tick { dt, used: 3 };
+    checked_read(words.len() < 3, field_outside, float_outside, read)
 }
 
 pub fn decode_start(head: Head) -> Decoded

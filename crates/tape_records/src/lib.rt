@@ -1,7 +1,7 @@
 // A tape's records with their values, what is read of a tape, and the checks of a record in their order.
 ghost use mathlib.Core.Path.{_≡_};
 ghost use mathlib.Core.List.{[], _∷_};
-ghost use Rattle.tape_records.specs.Answers.{unless, accepted, refused};
+ghost use Rattle.tape_records.specs.Answers.{unless, alone, accepted, refused};
 ghost use Rattle.world.specs.Refusal.{check};
 use door::DoorCommand;
 use world::CarPlan;
@@ -11,7 +11,7 @@ use world::ServiceMode;
 use world::SpeedOption;
 use world::refusal::Refusal;
 
-// A record with its values. A line's list stands beside it, in Decoded.
+// A record other than a tick, with its values. A line's list stands beside it, in Decoded.
 pub enum Record {
     Line {
         number: u8,
@@ -60,16 +60,14 @@ pub enum Record {
         car: u8,
         enabled: bool,
     },
-    Tick {
-        dt: f64,
-    },
     Start,
 }
 
-// A refusal, or a record and how many words it took.
+// A refusal, a record and how many words it took, or a tick.
 pub enum Read {
     Refused(Refusal),
     Accepted(Record, usize),
+    Tick { dt: f64, used: usize },
 }
 
 // What a tape begins with. `serves` has a line's list up to its count; all else of it is 0.
@@ -99,6 +97,19 @@ pub fn checked(
 ) -> Decoded
     ensures { λ r. ⌜ r ≡ unless (check Refusal.CutShort «cut_short» ∷ check Refusal.FieldOutside «field_outside» ∷ check Refusal.FloatOutside «float_outside» ∷ []) (accepted found used) ⌝ }
 {
+    let read = Read::Accepted(found, used);
+    checked_read(cut_short, field_outside, float_outside, read)
+}
+
+// The same of what is read where none holds: a record or a tick.
+pub fn checked_read(
+    cut_short: bool,
+    field_outside: bool,
+    float_outside: bool,
+    read: Read,
+) -> Decoded
+    ensures { λ r. ⌜ r ≡ unless (check Refusal.CutShort «cut_short» ∷ check Refusal.FieldOutside «field_outside» ∷ check Refusal.FloatOutside «float_outside» ∷ []) (alone read) ⌝ }
+{
     if cut_short {
         return refused(Refusal::CutShort);
     }
@@ -108,7 +119,6 @@ pub fn checked(
     if float_outside {
         return refused(Refusal::FloatOutside);
     }
-    let read = Read::Accepted(found, used);
     Decoded {
         read,
         serves: [0u8; 64],

@@ -2,8 +2,7 @@
 use mathlib.Core.Path.{_≡_, refl, sym, ap, _∙_}
 use mathlib.Core.Bool.{true, false}
 use mathlib.Core.List.{List, _++_}
-use Prim.Native.Nat.{ℕ, zero, suc, _+_, _*_, _<_, _≤_}
-use native.Mathlib.Nat.{mul-le-mul-right}
+use Prim.Native.Nat.{ℕ, zero, suc, _+_, _*_, _<_, _≤_, min}
 use native.Mathlib.Omega.{arith}
 use lib.ListN.{length, length-append}
 use lib.Ieee.{Float}
@@ -42,12 +41,12 @@ calls-quiet os h (suc n) =
 -- ---- the two systems
 
 module _ (w : World) (dt : Float) where
-  move-turns : (v : World) (i : ℕ) → v .«stop_count» ≡ w .«stop_count» → Fair (w .«stop_count» + 3) 64 (v .«total_moves») (carAt (v .cars) i) (moveOf dt v i)
+  move-turns : (v : World) (i : ℕ) → v .«stop_count» ≡ w .«stop_count» → Fair (min (w .«stop_count») 64 + 3) 64 (v .«total_moves») (carAt (v .cars) i) (moveOf dt v i)
   move-turns v i e = rw (← e) (move-fair dt v i)
 
-  moved-told : Told (moveOf dt) w (w .«stop_count» + 3) 64 (carsOf w) (moved w dt)
+  moved-told : Told (moveOf dt) w (min (w .«stop_count») 64 + 3) 64 (carsOf w) (moved w dt)
   unfolding moved runCars
-  moved-told = run-told (moveOf dt) w (w .«stop_count» + 3) 64 move-turns (carsOf w)
+  moved-told = run-told (moveOf dt) w (min (w .«stop_count») 64 + 3) 64 move-turns (carsOf w)
 
 doored-told : (w : World) → Told doorOf w 11 0 (carsOf w) (doored w)
 unfolding doored runCars
@@ -69,7 +68,6 @@ unfolding WordsFit roomOf tickWords doorsWords
 words-fit w dt =
     let v : World = moved w dt .world in
     let os : List JustOpened = doored v .opened in
-    let few : carsOf w ≤ w .«car_count» = omega arith in
     omega (
       arith,
       parts (moved w dt .words) (doored v .words) (clearWordsTo os (standing v) (carsOf v)),
@@ -77,7 +75,6 @@ words-fit w dt =
       same-count w dt,
       doored-told v .size,
       calls-quiet os (standing v) (carsOf v) .size,
-      mul-le-mul-right (w .«stop_count») few,
     )
 
 -- ---- the counters
@@ -97,7 +94,7 @@ module _ (w : World) (dt : Float) (low : Low w) where
   moved-grown : Grown (moveOf dt) w (carsOf w) v
   unfolding moved runCars
   moved-grown =
-      run-grown (moveOf dt) w (w .«stop_count» + 3) 64 (move-turns w dt) (carsOf w) (omega arith) (omega arith) (λ j l. omega (arith, low .cars j l))
+      run-grown (moveOf dt) w (min (w .«stop_count») 64 + 3) 64 (move-turns w dt) (carsOf w) (omega arith) (omega arith) (λ j l. omega (arith, low .cars j l))
       (omega (arith, low .total)) (move-still dt) (carsOf w) (omega arith)
 
   move-few : (i : ℕ) → movesOf (moveOf dt) w i ≤ 64

@@ -120,7 +120,7 @@ module _ (w : World) (i : ℕ) where
   c = carAt (w .cars) i
 
   abbrev Moves : Step → Type 0
-  Moves s = Fair (w .«stop_count» + 3) 64 (w .«total_moves») c s
+  Moves s = Fair (min (w .«stop_count») 64 + 3) 64 (w .«total_moves») c s
 
   pass-fair : (trip : Trip) (kind : LineKind) (r : MovementResult) → Moves (passes w i trip kind r)
   pass-fair trip kind r = record {
@@ -160,7 +160,7 @@ module _ (w : World) (i : ℕ) where
       quiet-join (quiet-one 4 i s 0 refl) (lamps-quiet i (lampsOf c) bothLit) in
       one-fair (arrives w i (Repositions s) kind r lamps) refl (omega (arith, q .size)) (one-move 3 i s 0 refl q) refl refl
 
-pub move-fair : (dt : Float) (w : World) (i : ℕ) → Fair (w .«stop_count» + 3) 64 (w .«total_moves») (carAt (w .cars) i) (moveOf dt w i)
+pub move-fair : (dt : Float) (w : World) (i : ℕ) → Fair (min (w .«stop_count») 64 + 3) 64 (w .«total_moves») (carAt (w .cars) i) (moveOf dt w i)
 unfolding movesIn
 move-fair dt w i =
     move-cases (Moves w i) w i (record { size = omega arith; few = omega arith; car = λ l. omega arith; total = λ l. omega arith }) (λ e. pass-fair w i)
