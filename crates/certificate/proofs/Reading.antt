@@ -12,15 +12,13 @@ use borrow.Author.Tests.{eqb-true, leb-false}
 use Rattle.laws.proofs.Bools.{yes}
 use Rattle.world.specs.World.{carAt, lineAt, riderAt}
 use Rattle.sound.specs.Sound.{anyTo, carBroken, lineBroken, riderBroken, countsBroken, broken, unloaded, phaseUnloaded, stopUnloaded, callsUnloaded}
-use Rattle.world.specs.Refusal.{Check, check}
 use Rattle.world.specs.declared.World.{World}
 use Rattle.world.specs.declared.Car.{Car}
 use Rattle.world.specs.declared.ServiceMode.{ServiceMode}
 use Rattle.world.specs.declared.refusal.Refusal.{Refusal}
-use Rattle.world.specs.declared.refusal.Refusal.the-variants.{CutShort}
 use Rattle.sound.proofs.Unbroken.{or-left, or-right, Counts, counts-fit}
 use Rattle.steps.specs.Steps.{isManual}
-use Rattle.tape.specs.Tape.{modeOf, Kind, kindIn, kinds, recordOf, decoded, unless, lineRecord}
+use Rattle.tape.specs.Tape.{modeOf, Kind, kindIn, kinds, recordOf, decoded, refused, lineRecord}
 use Rattle.fields.specs.Fields.{kindOf, vOf, headOf}
 use Rattle.tape.specs.declared.Decoded.{Decoded}
 use Rattle.tape.specs.declared.Read.{Read}
@@ -29,6 +27,7 @@ use Rattle.tape.specs.declared.Record.{Record}
 use Rattle.tape.specs.declared.Record.the-variants as Record
 use Rattle.tick.specs.Counters.{Low}
 use Rattle.laws.proofs.Choices.{both, cases}
+use Rattle.world.proofs.Checks.{unless-has}
 
 -- ---- the record read from words with the head h: only kind C is a tick, and only kind 6 with v 3 makes a car Manual
 
@@ -59,10 +58,6 @@ not-manual v e =
     Tame : ServiceMode → Type 0
     Tame m = isManual m ≡ false
 
-unless-reads : (P : Read → Type 0) (cs : List Check) (d : Decoded) → ((r : Refusal) → P (Refused r)) → P (d .read) → P (unless cs d .read)
-unless-reads P [] d r p = p
-unless-reads P (c ∷ cs) d r p = both (λ (x : Decoded). P (x .read)) (c .holds) (r (c .refusal)) (unless-reads P cs d r p)
-
 abbrev Each : (Read → Type 0) → ℕ → List Kind → Type 0
 Each P k [] = Unit {0}
 Each P k (t ∷ ts) = (eqb k (t .number) ≡ true → P (t .deed .done .read)) × Each P k ts
@@ -70,13 +65,14 @@ Each P k (t ∷ ts) = (eqb k (t .number) ≡ true → P (t .deed .done .read)) �
 kind-reads : (P : Read → Type 0) (k : ℕ) (ts : List Kind) → ((r : Refusal) → P (Refused r)) → Each P k ts → P (kindIn k ts .read)
 kind-reads P k [] r e = r _
 kind-reads P k (t ∷ ts) r e =
-    cases (λ (x : Decoded). P (x .read)) (eqb k (t .number)) (λ h. unless-reads P (t .deed .checks) (t .deed .done) r (e .0 h))
+    cases (λ (x : Decoded). P (x .read)) (eqb k (t .number))
+    (λ h. unless-has (λ (x : Decoded). P (x .read)) (t .deed .checks) refused (t .deed .done) (λ f q. r f) (λ q. e .0 h))
     (λ h. kind-reads P k ts r (e .1))
 
 pub decoded-reads : (ws : List ℕ) → Reads (getD ws 0 0) (decoded ws .read)
 unfolding decoded recordOf lineRecord
 decoded-reads ws =
-    unless-reads (Reads h) (check CutShort (eqb (length ws) 0) ∷ []) (recordOf (headOf h) ws) (λ r. tt)
+    both (λ (x : Decoded). Reads h (x .read)) (eqb (length ws) 0) tt
     (kind-reads (Reads h) (kindOf h) (kinds (headOf h) ws) (λ r. tt) (
       no 1 refl,
       (

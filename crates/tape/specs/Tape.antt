@@ -8,7 +8,7 @@ use lib.Ieee.{Float, binary64, lt, le, ofBits}
 use Rattle.float.specs.Float as F64
 use Rattle.door.specs.declared.DoorCommand.{DoorCommand}
 use Rattle.door.specs.declared.DoorCommand.the-variants as Command
-use Rattle.world.specs.Refusal.{Check, check}
+use Rattle.world.specs.Refusal.{Check, check, unless}
 use Rattle.world.specs.declared.refusal.Refusal.{Refusal}
 use Rattle.world.specs.declared.refusal.Refusal.the-variants.{CutShort, UnknownKind, FieldOutside, FloatOutside}
 use Rattle.world.specs.declared.LineKind.{LineKind}
@@ -74,18 +74,13 @@ refused r = alone (Refused r)
 abbrev pub accepted : Record → ℕ → Decoded
 accepted r used = alone (Accepted r used)
 
--- the first refusal whose condition holds, else the answer
-abbrev pub unless : List Check → Decoded → Decoded
-unless [] d = d
-unless (c ∷ cs) d = cond (c .holds) (refused (c .refusal)) (unless cs d)
-
 -- a record: its checks in order, and the answer where none holds
 pub record Deed : Type 0 where
   pub checks : List Check
   pub done : Decoded
 
 abbrev pub answer : Deed → Decoded
-answer d = unless (d .checks) (d .done)
+answer d = unless (d .checks) refused (d .done)
 
 -- ---- 1 line: n number; s 0 linear, 1 loop; v count of served stops, at most 64, or 65,535 for no list
 
@@ -355,4 +350,4 @@ unfoldable pub recordOf : Head → List ℕ → Decoded
 recordOf h ws = kindIn (h .kind) (kinds h ws)
 
 unfoldable pub decoded : List ℕ → Decoded
-decoded ws = unless (check CutShort (eqb (length ws) 0) ∷ []) (recordOf (headOf (getD ws 0 0)) ws)
+decoded ws = unless (check CutShort (eqb (length ws) 0) ∷ []) refused (recordOf (headOf (getD ws 0 0)) ws)

@@ -5,8 +5,8 @@ pub mod facts; // claims about the definitions
 
 ghost use mathlib.Core.Path.{_≡_};
 ghost use mathlib.Core.List.{[], _∷_};
-ghost use Rattle.tape.specs.Tape.{unless, accepted, refused, beginsTick, decoded};
-ghost use Rattle.world.specs.Refusal.{check};
+ghost use Rattle.tape.specs.Tape.{accepted, refused, beginsTick, decoded};
+ghost use Rattle.world.specs.Refusal.{check, unless};
 use door::DoorCommand;
 use fields::head::head_of;
 use world::LineKind;
@@ -104,7 +104,7 @@ fn checked(
     found: Record,
     used: usize,
 ) -> Decoded
-    ensures { λ r. ⌜ r ≡ unless (check Refusal.CutShort «cut_short» ∷ check Refusal.FieldOutside «field_outside» ∷ check Refusal.FloatOutside «float_outside» ∷ []) (accepted found used) ⌝ }
+    ensures { λ r. ⌜ r ≡ unless (check Refusal.CutShort «cut_short» ∷ check Refusal.FieldOutside «field_outside» ∷ check Refusal.FloatOutside «float_outside» ∷ []) refused (accepted found used) ⌝ }
 {
     if cut_short {
         return refused(Refusal::CutShort);

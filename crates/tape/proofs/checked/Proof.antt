@@ -4,15 +4,15 @@ use mathlib.Core.Bool.{true, false}
 use mathlib.Core.List.{[], _∷_}
 use Rattle.world.specs.declared.refusal.Refusal.the-variants.{CutShort, FieldOutside, FloatOutside}
 use Rattle.tape.specs.declared.Decoded.{Decoded}
-use Rattle.world.specs.Refusal.{check}
-use Rattle.tape.specs.Tape.{refused, accepted, unless}
+use Rattle.world.specs.Refusal.{check, unless}
+use Rattle.tape.specs.Tape.{refused, accepted}
 use Rattle.tape.proofs.checked.Statement.{statement}
 use Rattle.tape.proofs.checked.Tie as tie
 
 -- the four answers
 module _ (s : tie.Start) where
   abbrev all : Decoded
-  all = unless (check CutShort (s .args .cut-short) ∷ check FieldOutside (s .args .field-outside) ∷ check FloatOutside (s .args .float-outside) ∷ []) (accepted (s .args .found) (s .args .used))
+  all = unless (check CutShort (s .args .cut-short) ∷ check FieldOutside (s .args .field-outside) ∷ check FloatOutside (s .args .float-outside) ∷ []) refused (accepted (s .args .found) (s .args .used))
 
   first : s .args .cut-short ≡ true → refused CutShort ≡ all
   first p = rw p
