@@ -12,6 +12,7 @@ use Rattle.world.specs.World.{carAt, noCar}
 use Rattle.world.specs.declared.World.{World}
 use Rattle.steps.specs.Steps.{Step, Run, runTo, notOpened}
 use Rattle.steps.specs.declared.JustOpened.{JustOpened}
+use Rattle.laws.specs.Counting.{howMany}
 use Rattle.tick.specs.Counters.{movesIn, movesOf, sumTo}
 use Rattle.tick.proofs.Turns.{ones, Fair, moves-append}
 
@@ -63,7 +64,7 @@ module _
     (fair : (v : World) (i : ℕ) → v .«stop_count» ≡ w .«stop_count» → Fair room most (v .«total_moves») (carAt (v .cars) i) (f v i))
   where
     pub run-told : (k : ℕ) → Told f w room most k (runTo f w k)
-    unfolding runTo stopsIn sumTo movesIn movesOf
+    unfolding runTo stopsIn sumTo howMany movesOf
     run-told zero = record { stops = refl; cars = refl; ticks = refl; size = omega arith; told = refl; few = omega arith }
     run-told (suc k) =
         let t : Told f w room most k (runTo f w k) = run-told k in
