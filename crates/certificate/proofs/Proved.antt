@@ -1,18 +1,19 @@
 -- The third condition, proved. Assumes nothing.
 use mathlib.Core.Path.{_≡_, refl, _∙_}
 use mathlib.Core.Logic.{_⊎_, inl, inr}
-use mathlib.Core.Bool.{Bool, true, false, _||_, cond}
+use mathlib.Core.Bool.{Bool, true, false, _||_}
 use mathlib.Core.List.{List, [], _∷_, _++_, append-nil, append-assoc}
-use Prim.Native.Nat.{ℕ, suc, _+_}
+use Prim.Native.Nat.{ℕ, _+_}
 use native.Mathlib.Omega.{arith}
 use lib.Dec.{eqb}
 use borrow.Author.Tests.{eqb-true, eq-eqb}
 use Rattle.world.specs.declared.World.{World}
-use Rattle.log_words.specs.ReadBack.{carOf}
+use Rattle.log_words.specs.ReadBack.{isKind, carOf}
 use Rattle.layout.specs.Layout.{kindOf}
 use Rattle.tick.specs.Counters.{isMove, movesIn, sumTo}
 use Rattle.record.specs.Calls.{Empty, Call, next, worldAfter}
-use Rattle.report.specs.Report.{howMany}
+use Rattle.laws.specs.Numbers.{bit}
+use Rattle.laws.specs.Counting.{howMany}
 use Rattle.certificate.specs.Certificate.{NoManual, DoorsHold, told, joined, Is, LogHolds, ThirdCondition}
 use Rattle.certificate.proofs.Watch.{openAfter, Calm, is, isMoveOf, calm-between}
 use Rattle.certificate.proofs.Records.{Keeps, Kept, call-kept}
@@ -32,7 +33,7 @@ calls-kept (c ∷ cs) w j h q =
     record { keeps = rw (← append-assoc j (told w c) (joined (next w c) cs)) (a .keeps); doors = (λ t i l. k .stands t i, a .doors) }
 
 empty-keeps : (w : World) → Empty w → Keeps [] w
-unfolding openAfter Calm movesIn sumTo
+unfolding openAfter Calm howMany sumTo
 empty-keeps w e = (
   record { full = e .places; few = omega (arith, e .cars); fit = λ i l. absurd (omega (arith, e .cars, l)); fresh = λ i l. refl; calm = λ i. tt },
   record { cars = e .moves ∙ rw (e .cars); words = e .moves },
@@ -62,10 +63,10 @@ log-holds log h n x =
     calm-between n (x .before) (x .opened) (x .middle) (x .move) (x .rest) (rw (x .split) at (h n)) (is-of 6 n (x .opened) (x .opens))
     (move-of n (x .move) (x .moves)) (λ word d. never 7 n word (x .unclosed word d))
 
-one-kind : (k : ℕ) (n : ℕ) → cond (isMove k) (suc n) n ≡ cond (eqb k 1) 1 0 + cond (eqb k 2) 1 0 + cond (eqb k 3) 1 0 + n
-one-kind k n = go (eqb k 1) (eqb k 2) (eqb k 3) refl refl refl
+one-kind : (k : ℕ) → bit (isMove k) ≡ bit (eqb k 1) + bit (eqb k 2) + bit (eqb k 3)
+one-kind k = go (eqb k 1) (eqb k 2) (eqb k 3) refl refl refl
   where
-    go : (a b c : Bool) → eqb k 1 ≡ a → eqb k 2 ≡ b → eqb k 3 ≡ c → cond (a || b || c) (suc n) n ≡ cond a 1 0 + cond b 1 0 + cond c 1 0 + n
+    go : (a b c : Bool) → eqb k 1 ≡ a → eqb k 2 ≡ b → eqb k 3 ≡ c → bit (a || b || c) ≡ bit a + bit b + bit c
     go false false false p q r = omega arith
     go true false false p q r = omega arith
     go false true false p q r = omega arith
@@ -74,10 +75,10 @@ one-kind k n = go (eqb k 1) (eqb k 2) (eqb k 3) refl refl refl
     go true false true p q r = absurd (omega (arith, eqb-true k 1 p, eqb-true k 3 r))
     go false true true p q r = absurd (omega (arith, eqb-true k 2 q, eqb-true k 3 r))
 
-counts : (log : List ℕ) → movesIn log ≡ howMany 1 log + howMany 2 log + howMany 3 log
-unfolding movesIn howMany
+counts : (log : List ℕ) → movesIn log ≡ howMany (isKind 1) log + howMany (isKind 2) log + howMany (isKind 3) log
+unfolding howMany
 counts [] = refl
-counts (w ∷ ws) = one-kind (kindOf w) (movesIn ws) ∙ omega (arith, counts ws)
+counts (w ∷ ws) = omega (arith, one-kind (kindOf w), counts ws)
 
 pub third-condition : ThirdCondition
 unfolding ThirdCondition

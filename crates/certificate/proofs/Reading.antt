@@ -12,17 +12,15 @@ use borrow.Author.Tests.{eqb-true, leb-false}
 use Rattle.laws.proofs.Bools.{yes}
 use Rattle.world.specs.World.{carAt, lineAt, riderAt}
 use Rattle.sound.specs.Sound.{anyTo, carBroken, lineBroken, riderBroken, countsBroken, broken, unloaded, phaseUnloaded, stopUnloaded, callsUnloaded}
-use Rattle.world.specs.Refusal.{Check, check}
 use Rattle.world.specs.declared.World.{World}
 use Rattle.world.specs.declared.Car.{Car}
 use Rattle.world.specs.declared.ServiceMode.{ServiceMode}
 use Rattle.world.specs.declared.refusal.Refusal.{Refusal}
-use Rattle.world.specs.declared.refusal.Refusal.the-variants.{CutShort}
 use Rattle.sound.proofs.Unbroken.{or-left, or-right, Counts, counts-fit}
 use Rattle.steps.specs.Steps.{isManual}
 use Rattle.tape_orders.specs.OrderRecords.{modeOf}
 use Rattle.tape.specs.Tape.{Kind, kindIn, kinds, recordOf, decoded}
-use Rattle.tape_records.specs.Answers.{unless}
+use Rattle.tape_records.specs.Answers.{refused}
 use Rattle.tape_loads.specs.LoadRecords.{lineRecord}
 use Rattle.fields.specs.Fields.{headOf}
 use Rattle.layout.specs.Layout.{kindOf, vOf}
@@ -33,6 +31,7 @@ use Rattle.tape_records.specs.declared.Record.{Record}
 use Rattle.tape_records.specs.declared.Record.the-variants as Record
 use Rattle.tick.specs.Counters.{Low}
 use Rattle.laws.proofs.Choices.{both, cases}
+use Rattle.world.proofs.Checks.{unless-has}
 
 -- ---- the record read from words with the head h: only kind C is a tick, and only kind 6 with v 3 makes a car Manual
 
@@ -64,10 +63,6 @@ not-manual v e =
     Tame : ServiceMode → Type 0
     Tame m = isManual m ≡ false
 
-unless-reads : (P : Read → Type 0) (cs : List Check) (d : Decoded) → ((r : Refusal) → P (Refused r)) → P (d .read) → P (unless cs d .read)
-unless-reads P [] d r p = p
-unless-reads P (c ∷ cs) d r p = both (λ (x : Decoded). P (x .read)) (c .holds) (r (c .refusal)) (unless-reads P cs d r p)
-
 abbrev Each : (Read → Type 0) → ℕ → List Kind → Type 0
 Each P k [] = Unit {0}
 Each P k (t ∷ ts) = (eqb k (t .number) ≡ true → P (t .deed .done .read)) × Each P k ts
@@ -75,13 +70,14 @@ Each P k (t ∷ ts) = (eqb k (t .number) ≡ true → P (t .deed .done .read)) �
 kind-reads : (P : Read → Type 0) (k : ℕ) (ts : List Kind) → ((r : Refusal) → P (Refused r)) → Each P k ts → P (kindIn k ts .read)
 kind-reads P k [] r e = r _
 kind-reads P k (t ∷ ts) r e =
-    cases (λ (x : Decoded). P (x .read)) (eqb k (t .number)) (λ h. unless-reads P (t .deed .checks) (t .deed .done) r (e .0 h))
+    cases (λ (x : Decoded). P (x .read)) (eqb k (t .number))
+    (λ h. unless-has (λ (x : Decoded). P (x .read)) (t .deed .checks) refused (t .deed .done) (λ f q. r f) (λ q. e .0 h))
     (λ h. kind-reads P k ts r (e .1))
 
 pub decoded-reads : (ws : List ℕ) → Reads (getD ws 0 0) (decoded ws .read)
 unfolding decoded recordOf lineRecord
 decoded-reads ws =
-    unless-reads (Reads h) (check CutShort (eqb (length ws) 0) ∷ []) (recordOf (headOf h) ws) (λ r. tt)
+    both (λ (x : Decoded). Reads h (x .read)) (eqb (length ws) 0) tt
     (kind-reads (Reads h) (kindOf h) (kinds (headOf h) ws) (λ r. tt) (no 1 refl, (no 2 refl, (no 3 refl, (no 4 refl, (no 5 refl, ((λ e. (not-tick 6 refl e, λ q. not-manual (vOf h) (rw e at q))), (no 7 refl, (no 8 refl, (no 9 refl, (no 10 refl, (no 11 refl, ((λ e. e), (no 13 refl, tt))))))))))))))
   where
     h : ℕ

@@ -17,7 +17,7 @@ use Rattle.door.specs.declared.DoorState.the-variants.{Closed}
 use Rattle.world.specs.World.{carAt, noCar, newCar}
 use Rattle.world.specs.With.{withCar, withCars}
 use Rattle.sound.specs.Sound.{broken, unloaded}
-use Rattle.world.specs.Refusal.{Check, check}
+use Rattle.world.specs.Refusal.{Check, unless}
 use Rattle.world.specs.declared.World.{World}
 use Rattle.world.specs.declared.Car.{Car}
 use Rattle.world.specs.declared.CarPlan.{CarPlan}
@@ -47,9 +47,10 @@ use Rattle.tick.specs.Tick.{tickWords}
 use Rattle.tick.specs.Room.{roomOf, WordsFit}
 use Rattle.tick.specs.Counters.{sumTo}
 use Rattle.laws.proofs.Choices.{both, cases}
+use Rattle.world.proofs.Checks.{Passed, unless-has}
 use Rattle.tick.proofs.Proved.{words-fit}
 use Rattle.record_kinds.specs.Kinds.{changeBy}
-use Rattle.record.specs.Record.{Outcome, isAccepted, accepted, refused, unless, changed, checksOfTick, ticked, tickOnce, readBy, recordOf}
+use Rattle.record.specs.Record.{Outcome, isAccepted, accepted, refused, changed, checksOfTick, ticked, tickOnce, readBy, recordOf}
 use Rattle.record.specs.Calls.{Call, outcome, next, headWord}
 use Rattle.certificate.specs.Certificate.{isTick, putsManual, positionOf, told}
 use Rattle.certificate.proofs.Watch.{openAfter, told-none}
@@ -57,25 +58,6 @@ use Rattle.certificate.proofs.Turns.{Sound, idle, stopped, moving, repo
 use Rattle.certificate.proofs.Holding.{Held, Summed, same?, held-step}
 use Rattle.certificate.proofs.Ticking.{Ticks, tick-ticks, tick-sums}
 use Rattle.certificate.proofs.Reading.{Says, Reads, decoded-reads, Unbroken, unbroken}
-
--- ---- refusals
-
-abbrev Passed : List Check → Type 0
-Passed [] = Unit {0}
-Passed (c ∷ cs) = (c .holds ≡ false) × Passed cs
-
-unless-cases : (P : Outcome → Type 0) (cs : List Check) (w : World) (log : List ℕ) (o : Outcome) → ((r : Refusal) → P (refused w log r)) → (Passed cs → P o)
-    → P (unless cs w log o)
-unless-cases P [] w log o r p = p tt
-unless-cases P (c ∷ cs) w log o r p =
-    cases P (c .holds) {x = refused w log (c .refusal)} {y = unless cs w log o} (λ h. r (c .refusal)) (λ h. unless-cases P cs w log o r (λ q. p (h, q)))
-
-changed-cases : (P : Outcome → Type 0) (cs : List Check) (w v : World) (log : List ℕ) (used : ℕ) → ((r : Refusal) → P (refused w log r))
-    → (Passed cs → P (accepted used 0 v log)) → P (changed log used (Changes.unless cs w v))
-changed-cases P [] w v log used r p = p tt
-changed-cases P (c ∷ cs) w v log used r p =
-    cases (λ (x : Changed). P (changed log used x)) (c .holds) {x = Changes.refused w (c .refusal)} {y = Changes.unless cs w v} (λ h. r (c .refusal))
-    (λ h. changed-cases P cs w v log used r (λ q. p (h, q)))
 
 -- ---- what a record that is no tick leaves
 
@@ -188,8 +170,10 @@ module _ (w : World) (c : Call) (j : List ℕ) (h : Keeps j w) (used : ℕ) wher
   refuses r = quiet (refused w (c .log) r) refl h
 
   -- a record that is no tick
-  plain : (cs : List Check) (v : World) → eqb (kindOf (headWord c)) 12 ≡ false → (Passed cs → Keeps j v) → Gives w c j (changed (c .log) used (Changes.unless cs w v))
-  plain cs v t k = changed-cases (Gives w c j) cs w v (c .log) used refuses (λ q. quiet (accepted used 0 v (c .log)) t (k q))
+  plain : (cs : List Check) (v : World) → eqb (kindOf (headWord c)) 12 ≡ false → (Passed cs → Keeps j v) → Gives w c j (changed (c .log) used (unless cs (Changes.refused w) (Changes.accepted v)))
+  plain cs v t k =
+      unless-has (λ (x : Changed). Gives w c j (changed (c .log) used x)) cs (Changes.refused w) (Changes.accepted v) (λ r q. refuses r)
+      (λ q. quiet (accepted used 0 v (c .log)) t (k q))
 
   module _ (dt : Float) where
     ticks : Unbroken w → eqb (kindOf (headWord c)) 12 ≡ true → length (tickWords w dt) ≤ length (c .log) → Gives w c j (ticked w (c .log) used dt)
@@ -202,7 +186,7 @@ module _ (w : World) (c : Call) (j : List ℕ) (h : Keeps j w) (used : ℕ) wher
     tick-kept : Unbroken w → eqb (kindOf (headWord c)) 12 ≡ true → Gives w c j (tickOnce w (c .log) used dt)
     unfolding tickOnce WordsFit roomOf
     tick-kept u t =
-        unless-cases (Gives w c j) (checksOfTick w (c .log)) w (c .log) (ticked w (c .log) used dt) refuses
+        unless-has (Gives w c j) (checksOfTick w (c .log)) (refused w (c .log)) (ticked w (c .log) used dt) (λ r q. refuses r)
         (λ q. ticks u t (omega (arith, words-fit w dt, ltb-false (length (c .log)) (roomOf w) (q .1 .1 .0))))
 
   car-kept : (number : ℕ) (plan : CarPlan) → eqb (kindOf (headWord c)) 12 ≡ false
@@ -238,7 +222,7 @@ module _ (w : World) (c : Call) (j : List ℕ) (h : Keeps j w) (used : ℕ) wher
   -- an order that leaves phase and door
   order : (cs : List Check) (car : ℕ) (d : Car) → eqb (kindOf (headWord c)) 12 ≡ false → (Passed cs → Changes.noSuchCar w car ≡ false)
       → (Fit (carAt (w .cars) car) (openAfter car false j) → Fit d (openAfter car false j)) → d .«move_count» ≡ carAt (w .cars) car .«move_count»
-      → Gives w c j (changed (c .log) used (Changes.unless cs w (withCar w car d)))
+      → Gives w c j (changed (c .log) used (unless cs (Changes.refused w) (Changes.accepted (withCar w car d))))
   order cs car d e known f m =
       plain cs (withCar w car d) e
       (λ q. let l : car < w .«car_count» = loaded w j h car (known q) in ordered w j h car d l (f (fit w j h car l)) m)
@@ -255,7 +239,8 @@ module _ (w : World) (c : Call) (j : List ℕ) (h : Keeps j w) (p : putsManual w
   changed-kept (Record.Send car stop reposition) t s = send-kept w c j h used car stop reposition t
   changed-kept (Record.Mode car mode) t s =
       let d : Car = Modes.inMode (carAt (w .cars) car) mode in
-      changed-cases (Gives w c j) (Modes.orderChecks w car) w (withCar w car d) (c .log) used (refuses w c j h used)
+      unless-has (λ (x : Changed). Gives w c j (changed (c .log) used x)) (Modes.orderChecks w car) (Changes.refused w) (Changes.accepted (withCar w car d))
+      (λ r q. refuses w c j h used r)
       (λ q e. let l : car < w .«car_count» = loaded w j h car (q .1 .0) in
       quiet w c j h used (accepted used 0 (withCar w car d) (c .log)) t
       (ordered w j h car d l (record { sound = fit w j h car l .sound; tame = s (rw e at p) }) refl) e)
@@ -283,9 +268,8 @@ read-kept w c j h p u serves (Read.Tick dt used) s = tick-kept w c j h used dt u
 record-kept : (w : World) (c : Call) (j : List ℕ) → Keeps j w → putsManual w c ≡ false → Gives w c j (recordOf w (c .words) (c .log))
 unfolding recordOf
 record-kept w c j h p =
-    unless-cases (Gives w c j) (check BrokenWorld (broken w) ∷ []) w (c .log)
-    (readBy w (c .log) (decoded (c .words) .serves) (decoded (c .words) .read)) (refuses w c j h 0)
-    (λ q. read-kept w c j h p (unbroken w (q .0)) (decoded (c .words) .serves) (decoded (c .words) .read) (decoded-reads (c .words)))
+    cases (Gives w c j) (broken w) (λ b. refuses w c j h 0 BrokenWorld)
+    (λ b. read-kept w c j h p (unbroken w b) (decoded (c .words) .serves) (decoded (c .words) .read) (decoded-reads (c .words)))
 
 pub call-kept : (w : World) (c : Call) (j : List ℕ) → Keeps j w → putsManual w c ≡ false → Kept w c j
 unfolding outcome

@@ -1,11 +1,11 @@
 -- What every call gives: a refusal on its condition and on no other, and what a refusal and a tick leave as it was. Assumes nothing.
 use mathlib.Core.Path.{_≡_, refl, sym, _∙_}
 use mathlib.Core.Logic.{inl, inr}
-use mathlib.Core.Bool.{Bool, true, false, not, true≢false, cond}
+use mathlib.Core.Bool.{Bool, true, false, true≢false, cond}
 use mathlib.Core.List.{List, [], _∷_, _++_}
 use native.Mathlib.Omega.{arith}
-use Prim.Native.Nat.{ℕ, _+_, _^_, _<_, _≤_}
-use lib.Dec.{eqb, leb, ltb}
+use Prim.Native.Nat.{ℕ, _+_, _<_, _≤_}
+use lib.Dec.{eqb}
 use lib.ListN.{length, getD, set}
 use lib.Seq.{sets, length-sets}
 use lib.Ieee.{Float}
@@ -13,10 +13,10 @@ use borrow.Author.Tests.{ltb-false, eqb-false}
 use Rattle.world.specs.World.{carAt, newCar}
 use Rattle.world.specs.With.{withCar, withCars}
 use Rattle.sound.specs.Sound.{broken}
-use Rattle.world.specs.Refusal.{Check, check}
+use Rattle.world.specs.Refusal.{Check, check, unless}
 use Rattle.world.specs.declared.World.{World}
 use Rattle.world.specs.declared.refusal.Refusal.{Refusal}
-use Rattle.world.specs.declared.refusal.Refusal.the-variants.{BrokenWorld, CutShort, NotNow, LastTick, LogShort}
+use Rattle.world.specs.declared.refusal.Refusal.the-variants.{BrokenWorld, CutShort}
 use Rattle.tape_records.specs.Answers as TapeAnswers
 use Rattle.tape.specs.Tape as Tape
 use Rattle.tape.specs.Tape.{Kind, kinds, kindIn, decoded}
@@ -36,13 +36,26 @@ use Rattle.changes.specs.declared.Changed.{Changed}
 use Rattle.orders.specs.Orders.{sendChecks, sent, send}
 use Rattle.modes.specs.Modes.{orderChecks, inMode, setMode, atSpeed, setManualSpeed, marked, setEnabled}
 use Rattle.requests.specs.Requests.{commandChecks, commanded, queueCommand, callChecks, withCall, pressHallCall, destinationChecks, destined, pushDestination}
+use Rattle.laws.proofs.Choices.{both, cases}
+use Rattle.world.proofs.Checks.{unless-has}
 use Rattle.log.proofs.Writing.{sets-after}
 use Rattle.tick.specs.Tick.{tickWords}
 use Rattle.tick.specs.Room.{roomOf, WordsFit}
 use Rattle.tick.proofs.Proved.{words-fit}
 use Rattle.record_kinds.specs.Kinds.{changeBy}
+use Rattle.record.specs.declared.Answer.{Answer}
+use Rattle.record.specs.declared.Answer.the-variants.{Refused}
 use Rattle.record.specs.Record.{Outcome, accepted, refused, changed, checksOfTick, ticked, tickOnce, readBy, recordOf}
 use Rattle.conditions.specs.Conditions.{Kept, FirstCondition, Answers, stateChecks, behind, checksIn, conditions, OnItsCondition}
+
+-- checks before others: the first that holds refuses; else it is answered as by what follows
+unless-answers : {A : Type 0} (answer : A → Answer) (cs ds : List Check) (refused : Refusal → A) (next : A)
+    → ((r : Refusal) → answer (refused r) ≡ Refused r) → Answers ds (answer next) → Answers (cs ++ ds) (answer (unless cs refused next))
+unfolding Answers
+unless-answers answer [] ds refused next e h = h
+unless-answers {A} answer (c ∷ cs) ds refused next e h =
+    cases (λ (x : A). Answers (c ∷ (cs ++ ds)) (answer x)) (c .holds) (λ t. inl (t, e (c .refusal)))
+    (λ t. inr (t, unless-answers answer cs ds refused next e h))
 
 module _ (w : World) (words lent : List ℕ) where
   -- ---- what is kept
@@ -96,21 +109,13 @@ module _ (w : World) (words lent : List ℕ) where
     answers : Answers cs (o .answer)
     kept : f → Kept w words lent o
 
-  fine-check : {f : Type 0} (b : Bool) (r : Refusal) (cs : List Check) (o : Outcome) → (b ≡ false → Fine cs f o) → Fine (check r b ∷ cs) f (cond b (refused w lent r) o)
+  fine-changed : (used : ℕ) (cs : List Check) (next : World) → Fine (cs ++ []) (Takes used) (changed lent used (unless cs (Changes.refused w) (Changes.accepted next)))
   unfolding Answers
-  fine-check true r cs o h = record { answers = inl (refl, refl); kept = λ g. refused-kept r }
-  fine-check false r cs o h = record { answers = inr (refl, h refl .answers); kept = h refl .kept }
-
-  changed-check : (used : ℕ) (b : Bool) (r : Refusal) (cs : List Check) (c : Changed) →
-      Fine cs (Takes used) (changed lent used c) → Fine (check r b ∷ cs) (Takes used) (changed lent used (cond b (Changes.refused w r) c))
-  unfolding Answers
-  changed-check used true r cs c h = record { answers = inl (refl, refl); kept = λ g. refused-kept r }
-  changed-check used false r cs c h = record { answers = inr (refl, h .answers); kept = h .kept }
-
-  fine-changed : (used : ℕ) (cs : List Check) (next : World) → Fine cs (Takes used) (changed lent used (Changes.unless cs w next))
-  unfolding Answers
-  fine-changed used [] next = record { answers = refl; kept = accepted-kept used next }
-  fine-changed used (c ∷ cs) next = changed-check used (c .holds) (c .refusal) cs (Changes.unless cs w next) (fine-changed used cs next)
+  fine-changed used cs next = record {
+    answers = unless-answers (λ (c : Changed). changed lent used c .answer) cs [] (Changes.refused w) (Changes.accepted next) (λ r. refl) refl;
+    kept = λ t. unless-has (λ (c : Changed). Kept w words lent (changed lent used c)) cs (Changes.refused w) (Changes.accepted next) (λ r q. refused-kept r)
+        (λ q. accepted-kept used next t);
+  }
 
   -- ---- what was read
 
@@ -122,9 +127,11 @@ module _ (w : World) (words lent : List ℕ) where
 
   fine-tick : (used : ℕ) (dt : Float) → Fine (checksOfTick w lent) (InBounds words (Read.Tick dt used)) (tickOnce w lent used dt)
   unfolding tickOnce Answers roomOf
-  fine-tick used dt =
-      fine-check (not (w .started)) NotNow _ _ (λ s. fine-check (leb (2 ^ 28) (w .ticks)) LastTick _ _ (λ l. fine-check (ltb (length lent) (roomOf w)) LogShort [] (ticked w lent used dt) (λ r.
-      record { answers = refl; kept = λ g. ticked-kept used dt (ltb-false (length lent) (roomOf w) r) (g .0, g .1) (g .2) })))
+  fine-tick used dt = record {
+    answers = unless-answers (λ (o : Outcome). o .answer) (checksOfTick w lent) [] (refused w lent) (ticked w lent used dt) (λ r. refl) refl;
+    kept = λ g. unless-has (Kept w words lent) (checksOfTick w lent) (refused w lent) (ticked w lent used dt) (λ r q. refused-kept r)
+        (λ q. ticked-kept used dt (ltb-false (length lent) (roomOf w) (q .1 .1 .0)) (g .0, g .1) (g .2));
+  }
 
   fine-taken : (used : ℕ) (serves : List ℕ) (read : Record) → Fine (stateChecks w serves read) (Fits read used) (changed lent used (changeBy w serves read))
   unfolding loadLine loadStop loadCar loadRider send setMode setManualSpeed queueCommand pressHallCall pushDestination setEnabled start
@@ -159,15 +166,8 @@ module _ (w : World) (words lent : List ℕ) where
   abbrev answered : Decoded → Outcome
   answered d = readBy w lent (d .serves) (d .read)
 
-  tape-check : (b : Bool) (r : Refusal) (cs : List Check) (d : Decoded) →
-      Answers cs (answered d .answer) → Answers (check r b ∷ cs) (answered (cond b (TapeAnswers.refused r) d) .answer)
-  unfolding Answers
-  tape-check true r cs d h = inl (refl, refl)
-  tape-check false r cs d h = inr (refl, h)
-
-  tape-unless : (cs : List Check) (d : Decoded) → Answers (cs ++ behind w lent (d .serves) (d .read)) (answered (TapeAnswers.unless cs d) .answer)
-  tape-unless [] d = fine-read (d .serves) (d .read) .answers
-  tape-unless (c ∷ cs) d = tape-check (c .holds) (c .refusal) (cs ++ behind w lent (d .serves) (d .read)) (TapeAnswers.unless cs d) (tape-unless cs d)
+  tape-unless : (cs ds : List Check) (d : Decoded) → Answers ds (answered d .answer) → Answers (cs ++ ds) (answered (unless cs TapeAnswers.refused d) .answer)
+  tape-unless cs ds d = unless-answers (λ (x : Decoded). answered x .answer) cs ds TapeAnswers.refused d (λ r. refl)
 
   either : (b : Bool) (cs ds : List Check) (c d : Decoded) →
       Answers cs (answered c .answer) → Answers ds (answered d .answer) → Answers (cond b cs ds) (answered (cond b c d) .answer)
@@ -179,28 +179,20 @@ module _ (w : World) (words lent : List ℕ) where
   in-kinds k [] = inl (refl, refl)
   in-kinds k (t ∷ ts) =
       either (eqb k (t .number)) (t .deed .checks ++ behind w lent (t .deed .done .serves) (t .deed .done .read)) (checksIn w lent k ts) (TapeAnswers.answer (t .deed)) (kindIn k ts)
-      (tape-unless (t .deed .checks) (t .deed .done))
+      (tape-unless (t .deed .checks) _ (t .deed .done) (fine-read (t .deed .done .serves) (t .deed .done .read) .answers))
       (in-kinds k ts)
-
-  first : (b : Bool) (cs : List Check) (d : Decoded) → Answers cs (answered d .answer) → Answers (check BrokenWorld b ∷ cs) (cond b (refused w lent BrokenWorld) (answered d) .answer)
-  unfolding Answers
-  first true cs d h = inl (refl, refl)
-  first false cs d h = inr (refl, h)
-
-  guarded : (b : Bool) (o : Outcome) → Kept w words lent o → Kept w words lent (cond b (refused w lent BrokenWorld) o)
-  guarded true o h = refused-kept BrokenWorld
-  guarded false o h = h
 
 pub on-its-condition : OnItsCondition
 unfolding OnItsCondition conditions recordOf decoded Tape.recordOf
 on-its-condition w words log =
     let h = headOf (getD words 0 0) in
     let cs = checksIn w log (h .kind) (kinds h words) in
-    first w words log (broken w) (check CutShort (eqb (length words) 0) ∷ cs) (decoded words)
-    (tape-check w words log (eqb (length words) 0) CutShort cs (Tape.recordOf h words) (in-kinds w words log (h .kind) (kinds h words)))
+    unless-answers (λ (o : Outcome). o .answer) (check BrokenWorld (broken w) ∷ []) (check CutShort (eqb (length words) 0) ∷ cs) (refused w log)
+    (answered w words log (decoded words)) (λ r. refl)
+    (tape-unless w words log (check CutShort (eqb (length words) 0) ∷ []) cs (Tape.recordOf h words) (in-kinds w words log (h .kind) (kinds h words)))
 
 pub first-condition : FirstCondition
 unfolding FirstCondition recordOf Facts
 first-condition w words log =
     let d = decoded words in
-    guarded w words log (broken w) (readBy w log (d .serves) (d .read)) (fine-read w words log (d .serves) (d .read) .kept (in-bounds words))
+    both (Kept w words log) (broken w) (refused-kept w words log BrokenWorld) (fine-read w words log (d .serves) (d .read) .kept (in-bounds words))

@@ -8,7 +8,7 @@ use lib.Ieee.{Float}
 use Rattle.world.specs.World.{newCar}
 use Rattle.world.specs.With.{withPlan, withCars, withPeople}
 use Rattle.sound.specs.Sound.{unloaded, lineBroken, riderBroken}
-use Rattle.world.specs.Refusal.{Check, check}
+use Rattle.world.specs.Refusal.{Check, check, unless}
 use Rattle.world.specs.declared.World.{World}
 use Rattle.world.specs.declared.Line.{Line}
 use Rattle.world.specs.declared.LineKind.{LineKind}
@@ -16,7 +16,7 @@ use Rattle.world.specs.declared.CarPlan.{CarPlan}
 use Rattle.world.specs.declared.Rider.{Rider}
 use Rattle.world.specs.declared.refusal.Refusal.the-variants.{NotNow, NotNext, NotLoaded}
 use Rattle.changes.specs.declared.Changed.{Changed}
-use Rattle.changes.specs.Changes.{unless, notNext}
+use Rattle.changes.specs.Changes.{refused, accepted, notNext}
 
 -- 1 line
 abbrev pub lineRow : LineKind → Bool → ℕ → List ℕ → Line
@@ -35,7 +35,7 @@ withLine w number row = withPlan w (w .stops) (w .«stop_count») (set (w .lines
 unfoldable pub loadLine : World → ℕ → LineKind → Bool → ℕ → List ℕ → Changed
 loadLine w number kind listed count serves =
     let row = lineRow kind listed count serves in
-    unless (lineChecks w number row) w (withLine w number row)
+    unless (lineChecks w number row) (refused w) (accepted (withLine w number row))
 
 -- 2 stop
 abbrev pub stopChecks : World → ℕ → List Check
@@ -48,7 +48,7 @@ abbrev pub withStop : World → ℕ → Float → World
 withStop w number position = withPlan w (set (w .stops) number position) (number + 1) (w .lines) (w .«line_count») (w .started)
 
 unfoldable pub loadStop : World → ℕ → Float → Changed
-loadStop w number position = unless (stopChecks w number) w (withStop w number position)
+loadStop w number position = unless (stopChecks w number) (refused w) (accepted (withStop w number position))
 
 -- 3 car
 abbrev pub carChecks : World → ℕ → CarPlan → List Check
@@ -59,7 +59,7 @@ carChecks w number plan =
     ∷ []
 
 unfoldable pub loadCar : World → ℕ → CarPlan → Changed
-loadCar w number plan = unless (carChecks w number plan) w (withCars w (set (w .cars) number (newCar plan)) (number + 1))
+loadCar w number plan = unless (carChecks w number plan) (refused w) (accepted (withCars w (set (w .cars) number (newCar plan)) (number + 1)))
 
 -- the count of riders once this number is loaded: one more where it is new
 abbrev pub countWith : ℕ → ℕ → ℕ
@@ -77,4 +77,4 @@ withRider w number rider =
     withPeople w (set (w .riders) number rider) (countWith (w .«rider_count») number) (w .«up_calls») (w .«down_calls»)
 
 unfoldable pub loadRider : World → ℕ → Rider → Changed
-loadRider w number rider = unless (riderChecks w number rider) w (withRider w number rider)
+loadRider w number rider = unless (riderChecks w number rider) (refused w) (accepted (withRider w number rider))

@@ -10,8 +10,8 @@ use Rattle.world.specs.declared.ServiceMode.{ServiceMode}
 use Rattle.world.specs.declared.SpeedOption.{SpeedOption}
 use Rattle.world.specs.declared.refusal.Refusal.the-variants.{NotNow, NotLoaded}
 use Rattle.changes.specs.declared.Changed.{Changed}
-use Rattle.world.specs.Refusal.{Check, check}
-use Rattle.changes.specs.Changes.{unless, noSuchCar}
+use Rattle.world.specs.Refusal.{Check, check, unless}
+use Rattle.changes.specs.Changes.{refused, accepted, noSuchCar}
 
 -- the checks of an order to a car that needs nothing but the car: kinds 6, 7 and B
 abbrev pub orderChecks : World → ℕ → List Check
@@ -28,7 +28,7 @@ inMode c mode =
 
 unfoldable pub setMode : World → ℕ → ServiceMode → Changed
 setMode w car mode =
-    unless (orderChecks w car) w (withCar w car (inMode (carAt (w .cars) car) mode))
+    unless (orderChecks w car) (refused w) (accepted (withCar w car (inMode (carAt (w .cars) car) mode)))
 
 -- 7 manual speed
 abbrev pub atSpeed : Car → SpeedOption → Car
@@ -38,7 +38,7 @@ atSpeed c speed =
 
 unfoldable pub setManualSpeed : World → ℕ → SpeedOption → Changed
 setManualSpeed w car speed =
-    unless (orderChecks w car) w (withCar w car (atSpeed (carAt (w .cars) car) speed))
+    unless (orderChecks w car) (refused w) (accepted (withCar w car (atSpeed (carAt (w .cars) car) speed)))
 
 -- B enable, disable
 abbrev pub marked : Car → Bool → Car
@@ -48,4 +48,4 @@ marked c enabled =
 
 unfoldable pub setEnabled : World → ℕ → Bool → Changed
 setEnabled w car enabled =
-    unless (orderChecks w car) w (withCar w car (marked (carAt (w .cars) car) enabled))
+    unless (orderChecks w car) (refused w) (accepted (withCar w car (marked (carAt (w .cars) car) enabled)))

@@ -1,6 +1,6 @@
 -- Every record keeps what refusal 0 asks of a world. Assumes nothing.
 use mathlib.Core.Path.{_≡_, refl, sym, _∙_}
-use mathlib.Core.Bool.{Bool, true, false, not, _&&_, cond, true≢false}
+use mathlib.Core.Bool.{Bool, true, false, not, cond, true≢false}
 use mathlib.Core.List.{List, [], _∷_}
 use Prim.Native.Nat.{ℕ, _+_, _^_, _<_, _≤_}
 use native.Mathlib.Omega.{arith}
@@ -14,7 +14,7 @@ use Rattle.sound.specs.Sound.{anyTo, unloaded, phaseUnloaded, lineBroken, rider
 use Rattle.world.specs.World.{noLine, noRider, lineAt, carAt, riderAt, newCar}
 use Rattle.world.specs.With.{withCar}
 use Rattle.world.specs.Calls.{pressed}
-use Rattle.world.specs.Refusal.{Check, refusalNumber}
+use Rattle.world.specs.Refusal.{Check, unless, refusalNumber}
 use Rattle.world.specs.declared.World.{World}
 use Rattle.world.specs.declared.Car.{Car}
 use Rattle.world.specs.declared.Line.{Line}
@@ -26,7 +26,6 @@ use Rattle.world.specs.declared.ElevatorPhase.the-variants.{MovingToStop, Repos
 use Rattle.world.specs.declared.ServiceMode.{ServiceMode}
 use Rattle.world.specs.declared.SpeedOption.{SpeedOption}
 use Rattle.world.specs.declared.refusal.Refusal.{Refusal}
-use Rattle.laws.proofs.Bools.{and-left, and-right}
 use Rattle.sound.proofs.Unbroken.{or-left, or-right}
 use Rattle.tape.specs.Tape.{decoded}
 use Rattle.tape.specs.Facts.{InBounds, Facts}
@@ -45,8 +44,9 @@ use Rattle.requests.specs.Requests.{commandChecks, callChecks, destinationCheck
 use Rattle.record.specs.declared.Answer.{Answer}
 use Rattle.record.specs.declared.Answer.the-variants.{Accepted, Refused}
 use Rattle.record_kinds.specs.Kinds.{changeBy}
-use Rattle.record.specs.Record.{Outcome, refused, unless, changed, checksOfTick, ticked, tickOnce, readBy, recordOf}
+use Rattle.record.specs.Record.{Outcome, refused, changed, checksOfTick, ticked, tickOnce, readBy, recordOf}
 use Rattle.laws.proofs.Choices.{both, cases}
+use Rattle.world.proofs.Checks.{Passed, all, first-of, unless-has}
 use Rattle.never_broken.proofs.Numbers.{table-set, line-stays, rider-stays, press-stays}
 use Rattle.never_broken.proofs.Turns.{QueueIn, CarIn, car-in-stays}
 use Rattle.never_broken.proofs.Worlds.{CarsIn, RidersIn, Sound, cars-set, counters-set, tick-sound}
@@ -64,23 +64,12 @@ pub record Good (o : Outcome) : Type 0 where
 
 -- ---- a record's checks
 
-abbrev Passed : List Check → Type 0
-Passed [] = Unit
-Passed (c ∷ cs) = (c .holds ≡ false) × Passed cs
+-- not refusal 0
+abbrev positive : Refusal → Bool
+positive r = ltb 0 (refusalNumber r)
 
--- none of them is refusal 0
-abbrev positive : List Check → Bool
-positive [] = true
-positive (c ∷ cs) = ltb 0 (refusalNumber (c .refusal)) && positive cs
-
-refused-good : (w : World) (log : List ℕ) (r : Refusal) → Sound w → ltb 0 (refusalNumber r) ≡ true → Good (refused w log r)
+refused-good : (w : World) (log : List ℕ) (r : Refusal) → Sound w → positive r ≡ true → Good (refused w log r)
 refused-good w log r h e = record { world = h; answer = ltb-true 0 (refusalNumber r) e }
-
-unless-good : (cs : List Check) (w : World) (log : List ℕ) (o : Outcome) → Sound w → positive cs ≡ true → (Passed cs → Good o) → Good (unless cs w log o)
-unless-good [] w log o h e f = f tt
-unless-good (c ∷ cs) w log o h e f =
-    let n = ltb 0 (refusalNumber (c .refusal)) in
-    cases Good (c .holds) (λ t. refused-good w log (c .refusal) h (and-left n (positive cs) e)) (λ t. unless-good cs w log o h (and-right n (positive cs) e) (λ q. f (t, q)))
 
 -- refusal 7 not given
 is-next : (size count number : ℕ) → notNext size count number ≡ false → (number < size) × (number ≡ count)
@@ -107,11 +96,10 @@ module _ (w : World) (h : Sound w) (log : List ℕ) (used : ℕ) where
   abbrev Keeps : Changed → Type 0
   Keeps c = Good (changed log used c)
 
-  unless-keeps : (cs : List Check) (next : World) → positive cs ≡ true → (Passed cs → Sound next) → Keeps (Changes.unless cs w next)
-  unless-keeps [] next e f = record { world = f tt; answer = omega arith }
-  unless-keeps (c ∷ cs) next e f =
-      let n = ltb 0 (refusalNumber (c .refusal)) in
-      cases Keeps (c .holds) (λ t. refused-good w log (c .refusal) h (and-left n (positive cs) e)) (λ t. unless-keeps cs next (and-right n (positive cs) e) (λ q. f (t, q)))
+  unless-keeps : (cs : List Check) (next : World) → all positive cs ≡ true → (Passed cs → Sound next) → Keeps (unless cs (Changes.refused w) (Changes.accepted next))
+  unless-keeps cs next e f =
+      unless-has Keeps cs (Changes.refused w) (Changes.accepted next) (λ r q. refused-good w log r h (first-of positive cs e q))
+      (λ q. record { world = f q; answer = omega arith })
 
   -- ---- loading
 
@@ -315,7 +303,7 @@ module _ (w : World) (h : Sound w) (log : List ℕ) (used : ℕ) where
   tick-keeps : (dt : Float) → Good (tickOnce w log used dt)
   unfolding tickOnce
   tick-keeps dt =
-      unless-good (checksOfTick w log) w log (ticked w log used dt) h refl
+      unless-has Good (checksOfTick w log) (refused w log) (ticked w log used dt) (λ r q. refused-good w log r h (first-of positive (checksOfTick w log) refl q))
       (λ q. record { world = tick-sound w dt (leb-false (2 ^ 28) (w .ticks) (q .1 .0)) h; answer = omega arith })
 
   changed-good : (serves : List ℕ) (read : Record) → Good (changed log used (changeBy w serves read))

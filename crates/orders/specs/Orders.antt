@@ -12,8 +12,8 @@ use Rattle.world.specs.declared.ElevatorPhase.the-variants.{Idle, MovingToStop,
 use Rattle.world.specs.declared.StopOption.the-variants.{Stop}
 use Rattle.world.specs.declared.refusal.Refusal.the-variants.{NotNow, NotLoaded, CannotGo}
 use Rattle.changes.specs.declared.Changed.{Changed}
-use Rattle.world.specs.Refusal.{Check, check}
-use Rattle.changes.specs.Changes.{unless, noSuchCar}
+use Rattle.world.specs.Refusal.{Check, check, unless}
+use Rattle.changes.specs.Changes.{refused, accepted, noSuchCar}
 
 -- whether a car may be sent: Idle or Stopped
 abbrev pub canGo : ElevatorPhase → Bool
@@ -40,4 +40,4 @@ sendChecks w car stop =
     ∷ []
 
 unfoldable pub send : World → ℕ → ℕ → Bool → Changed
-send w car stop reposition = unless (sendChecks w car stop) w (withCar w car (sent (carAt (w .cars) car) stop reposition))
+send w car stop reposition = unless (sendChecks w car stop) (refused w) (accepted (withCar w car (sent (carAt (w .cars) car) stop reposition)))

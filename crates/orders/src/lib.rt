@@ -2,8 +2,9 @@
 ghost use mathlib.Core.Path.{_≡_};
 ghost use Rattle.orders.specs.Orders as Orders;
 use changes::Changed;
-use changes::accepted;
-use changes::refused;
+use changes::Hindered;
+use changes::ordered;
+use changes::row_of;
 use sound::unloaded;
 use world::Car;
 use world::ElevatorPhase;
@@ -43,22 +44,12 @@ fn sent(car: Car, stop: u8, reposition: bool) -> Car
 pub fn send(world: World, car: u8, stop: u8, reposition: bool) -> Changed
     ensures { λ r. ⌜ r ≡ Orders.send world car stop reposition ⌝ }
 {
-    if !world.started {
-        return refused(world, Refusal::NotNow);
-    }
-    let at = car as usize;
-    if 16 <= at {
-        return refused(world, Refusal::NotLoaded);
-    }
-    if unloaded(world.car_count, car) | unloaded(world.stop_count, stop) {
-        return refused(world, Refusal::NotLoaded);
-    }
-    let row = world.cars[at];
+    let row = row_of(world, car);
+    let unnamed = unloaded(world.stop_count, stop);
     let phase = row.phase;
     if !row.enabled | !can_go(phase) {
-        return refused(world, Refusal::CannotGo);
+        return ordered(world, car, unnamed, Hindered::By(Refusal::CannotGo), row);
     }
-    let mut next = world;
-    next.cars[at] = sent(row, stop, reposition);
-    accepted(next)
+    let next = sent(row, stop, reposition);
+    ordered(world, car, unnamed, Hindered::No, next)
 }

@@ -9,6 +9,7 @@ use lib.Dec.{ltb, eqb}
 use lib.ListN.{length, take, drop, length-append, length-drop, length-take}
 use lib.Seq.{take-all, drop-drop}
 use Rattle.laws.proofs.Bools.{and-left, and-right}
+use Rattle.laws.proofs.Counting.{bit-small}
 use Rattle.world.specs.declared.World.{World}
 use Rattle.log.specs.Log.{Wrote}
 use Rattle.log.proofs.Writing.{wrote-none, wrote-length, wrote-fits, also}
@@ -61,10 +62,6 @@ pub record Going (ended : Bool) (p₀ : Playing) (piece out₀ log out : List �
   pub fuel : ℕ
   pub enough : left piece from (s .over) < fuel
   pub same : playTo (2 + length piece) ended p₀ ≡ playTo fuel ended (here s log piece from text)
-
-bit-small : (b : Bool) → bit b ≤ 1
-bit-small true = omega arith
-bit-small false = omega arith
 
 pub going : (ended : Bool) (piece out log : List ℕ) (s : Step) → s .at ≡ 0 → length log ≡ 2048 → length out ≡ 65536
     → Going ended (here s log piece 0 []) piece out log out s 0

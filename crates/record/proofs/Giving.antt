@@ -1,18 +1,18 @@
 -- What a call gives, case by case. Assumes nothing.
 use mathlib.Core.Path.{_≡_, refl, sym, _∙_, ap}
-use mathlib.Core.Bool.{Bool, true, false, not, cond}
+use mathlib.Core.Bool.{Bool, true, false, cond}
 use mathlib.Core.List.{List, [], _∷_}
 use native.Mathlib.Omega.{arith}
-use Prim.Native.Nat.{ℕ, _^_, _≤_}
-use lib.Dec.{leb, ltb}
+use Prim.Native.Nat.{ℕ, _≤_}
 use lib.ListN.{length}
 use lib.Ieee.{Float}
 use borrow.Author.Tests.{ltb-false}
 use Rattle.sound.specs.Sound.{broken}
-use Rattle.world.specs.Refusal.{Check}
+use Rattle.world.specs.Refusal.{Check, unless}
+use Rattle.world.proofs.Checks.{unless-passed}
 use Rattle.world.specs.declared.World.{World}
 use Rattle.world.specs.declared.refusal.Refusal.{Refusal}
-use Rattle.world.specs.declared.refusal.Refusal.the-variants.{BrokenWorld, NotNow, LastTick, LogShort}
+use Rattle.world.specs.declared.refusal.Refusal.the-variants.{BrokenWorld}
 use Rattle.tape.specs.Tape.{decoded}
 use Rattle.tape_records.specs.declared.Read.{Read}
 use Rattle.tape_records.specs.declared.Read.the-variants as Read
@@ -21,14 +21,14 @@ use Rattle.tape_records.specs.declared.Record.{Record}
 use Rattle.changes.specs.declared.Changed.{Changed}
 use Rattle.changes.specs.declared.Taken.{Taken}
 use Rattle.changes.specs.declared.Taken.the-variants as Taken
-use Rattle.record_kinds.specs.Kinds.{changeBy, takenUnless, tickTaken}
+use Rattle.record_kinds.specs.Kinds.{changeBy, tickTaken}
 use Rattle.log.specs.Log.{Wrote}
 use Rattle.tick.specs.Tick.{tickWorld, tickWords}
-use Rattle.tick.specs.Room.{roomOf, roomFor, WordsFit}
+use Rattle.tick.specs.Room.{roomOf, WordsFit}
 use Rattle.tick.proofs.Proved.{words-fit}
 use Rattle.record.specs.declared.Recorded.{Recorded}
 use Rattle.record.specs.declared.Answer.the-variants.{Accepted, Refused}
-use Rattle.record.specs.Record.{Outcome, Gives, refused, unless, answerOf, checksOfTick, ticked, tickOnce, readBy, recordOf}
+use Rattle.record.specs.Record.{Outcome, Gives, refused, answerOf, checksOfTick, ticked, tickOnce, readBy, recordOf}
 
 -- a refusal: the answer, and the world as it was
 abbrev pub Says : Recorded → World → Refusal → Type 0
@@ -47,12 +47,12 @@ module _ (w : World) (log : List ℕ) where
   saidOf o Taken.Accepted = o
   saidOf o (Taken.Refused f) = refused w log f
 
-  said : (o : Outcome) (cs : List Check) (t : Taken) → takenUnless cs ≡ t → unless cs w log o ≡ saidOf o t
+  said : (o : Outcome) (cs : List Check) (t : Taken) → unless cs Taken.Refused Taken.Accepted ≡ t → unless cs (refused w log) o ≡ saidOf o t
   said o [] t e = rw (← e)
   said o (c ∷ cs) t e = by (c .holds) (λ h. said o cs t h) e
     where
-      by : (b : Bool) → (takenUnless cs ≡ t → unless cs w log o ≡ saidOf o t)
-          → cond b (Taken.Refused (c .refusal)) (takenUnless cs) ≡ t → cond b (refused w log (c .refusal)) (unless cs w log o) ≡ saidOf o t
+      by : (b : Bool) → (unless cs Taken.Refused Taken.Accepted ≡ t → unless cs (refused w log) o ≡ saidOf o t)
+          → cond b (Taken.Refused (c .refusal)) (unless cs Taken.Refused Taken.Accepted) ≡ t → cond b (refused w log (c .refusal)) (unless cs (refused w log) o) ≡ saidOf o t
       by true k h = rw (← h)
       by false k h = k h
 
@@ -63,14 +63,7 @@ module _ (w : World) (log : List ℕ) where
   -- a tick that is taken has room
   has-room : tickSays ≡ Taken.Accepted → roomOf w ≤ length log
   unfolding tickTaken roomOf
-  has-room e = by (not (w .started)) (leb (2 ^ 28) (w .ticks)) (ltb (length log) (roomFor (w .«car_count») (w .«stop_count»))) refl e
-    where
-      by : (a b c : Bool) → ltb (length log) (roomFor (w .«car_count») (w .«stop_count»)) ≡ c
-          → cond a (Taken.Refused NotNow) (cond b (Taken.Refused LastTick) (cond c (Taken.Refused LogShort) Taken.Accepted)) ≡ Taken.Accepted → roomOf w ≤ length log
-      by true b c s q = let z : _≡_ {A = ℕ} 0 1 = cc in absurd (omega arith)
-      by false true c s q = let z : _≡_ {A = ℕ} 0 1 = cc in absurd (omega arith)
-      by false false true s q = let z : _≡_ {A = ℕ} 0 1 = cc in absurd (omega arith)
-      by false false false s q = ltb-false _ _ s
+  has-room e = ltb-false (length log) (roomOf w) (unless-passed (checksOfTick w log) (λ r q. let z : _≡_ {A = ℕ} 0 1 = cc in omega arith) e .0 .1 .1 .0)
 
   -- ---- what was read
 

@@ -1,13 +1,13 @@
 -- The record call: one record of a tape, from the world, the words and the log to the answer, the next world and the log.
 use mathlib.Core.Path.{_≡_}
-use mathlib.Core.Bool.{Bool, true, false, cond}
+use mathlib.Core.Bool.{Bool, true, false}
 use mathlib.Core.List.{List, [], _∷_}
 use Prim.Native.Nat.{ℕ}
 use lib.ListN.{length}
 use lib.Seq.{sets}
 use lib.Ieee.{Float}
 use Rattle.sound.specs.Sound.{broken}
-use Rattle.world.specs.Refusal.{Check, check}
+use Rattle.world.specs.Refusal.{Check, check, unless}
 use Rattle.world.specs.declared.World.{World}
 use Rattle.world.specs.declared.refusal.Refusal.{Refusal}
 use Rattle.world.specs.declared.refusal.Refusal.the-variants.{BrokenWorld}
@@ -59,11 +59,6 @@ pub record Gives (r : Recorded) (left : List ℕ) (o : Outcome) : Type 0 where
   pub world : r .world ≡ o .world
   pub log : left ≡ o .log
 
--- the first refusal whose condition holds, else the outcome
-abbrev pub unless : List Check → World → List ℕ → Outcome → Outcome
-unless [] w log o = o
-unless (c ∷ cs) w log o = cond (c .holds) (refused w log (c .refusal)) (unless cs w log o)
-
 -- ---- every record but the tick: no word is written, the log is as it was
 
 abbrev pub answerOf : Taken → ℕ → Answer
@@ -83,7 +78,7 @@ abbrev pub ticked : World → List ℕ → ℕ → Float → Outcome
 ticked w log used dt = accepted used (length (tickWords w dt)) (tickWorld w dt) (sets log 0 (tickWords w dt))
 
 unfoldable pub tickOnce : World → List ℕ → ℕ → Float → Outcome
-tickOnce w log used dt = unless (checksOfTick w log) w log (ticked w log used dt)
+tickOnce w log used dt = unless (checksOfTick w log) (refused w log) (ticked w log used dt)
 
 -- ---- the record call
 
@@ -95,4 +90,4 @@ readBy w log serves (Read.Tick dt used) = tickOnce w log used dt
 
 -- "Checked in the order of the numbers": 0, then what the tape says, then what the state says
 unfoldable pub recordOf : World → List ℕ → List ℕ → Outcome
-recordOf w words log = unless (check BrokenWorld (broken w) ∷ []) w log (readBy w log (decoded words .serves) (decoded words .read))
+recordOf w words log = unless (check BrokenWorld (broken w) ∷ []) (refused w log) (readBy w log (decoded words .serves) (decoded words .read))

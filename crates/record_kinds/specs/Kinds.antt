@@ -1,9 +1,9 @@
 -- What each record but the tick does, and what the state says of a tick.
-use mathlib.Core.Bool.{Bool, not, cond}
+use mathlib.Core.Bool.{Bool, not}
 use mathlib.Core.List.{List, [], _∷_}
 use Prim.Native.Nat.{ℕ, _^_}
 use lib.Dec.{leb, ltb}
-use Rattle.world.specs.Refusal.{Check, check}
+use Rattle.world.specs.Refusal.{Check, check, unless}
 use Rattle.world.specs.declared.World.{World}
 use Rattle.world.specs.declared.refusal.Refusal.the-variants.{NotNow, LastTick, LogShort}
 use Rattle.tape_records.specs.declared.Record.{Record}
@@ -45,9 +45,5 @@ tickChecks started ticks cars stops room =
     ∷ []
 
 -- the first of them that holds, or the tick is taken
-abbrev pub takenUnless : List Check → Taken
-takenUnless [] = Accepted
-takenUnless (c ∷ cs) = cond (c .holds) (Refused (c .refusal)) (takenUnless cs)
-
 unfoldable pub tickTaken : Bool → ℕ → ℕ → ℕ → ℕ → Taken
-tickTaken started ticks cars stops room = takenUnless (tickChecks started ticks cars stops room)
+tickTaken started ticks cars stops room = unless (tickChecks started ticks cars stops room) Refused Accepted

@@ -13,8 +13,8 @@ use Rattle.world.specs.declared.World.{World}
 use Rattle.world.specs.declared.Car.{Car}
 use Rattle.world.specs.declared.refusal.Refusal.the-variants.{NotNow, NotLoaded, QueueFull}
 use Rattle.changes.specs.declared.Changed.{Changed}
-use Rattle.world.specs.Refusal.{Check, check}
-use Rattle.changes.specs.Changes.{unless, noSuchCar}
+use Rattle.world.specs.Refusal.{Check, check, unless}
+use Rattle.changes.specs.Changes.{refused, accepted, noSuchCar}
 
 -- 8 door command, appended to the car's door queue
 abbrev pub commanded : Car → DoorCommand → Car
@@ -30,7 +30,7 @@ commandChecks w car =
     ∷ []
 
 unfoldable pub queueCommand : World → ℕ → DoorCommand → Changed
-queueCommand w car command = unless (commandChecks w car) w (withCar w car (commanded (carAt (w .cars) car) command))
+queueCommand w car command = unless (commandChecks w car) (refused w) (accepted (withCar w car (commanded (carAt (w .cars) car) command)))
 
 -- 9 hall call
 abbrev pub callChecks : World → ℕ → List Check
@@ -46,7 +46,7 @@ withCall w stop down =
     (cond down (pressed (w .«down_calls») stop) (w .«down_calls»))
 
 unfoldable pub pressHallCall : World → ℕ → Bool → Changed
-pressHallCall w stop down = unless (callChecks w stop) w (withCall w stop down)
+pressHallCall w stop down = unless (callChecks w stop) (refused w) (accepted (withCall w stop down))
 
 -- A destination, appended to the car's destination queue
 abbrev pub destined : Car → ℕ → Car
@@ -62,4 +62,4 @@ destinationChecks w car stop =
     ∷ []
 
 unfoldable pub pushDestination : World → ℕ → ℕ → Changed
-pushDestination w car stop = unless (destinationChecks w car stop) w (withCar w car (destined (carAt (w .cars) car) stop))
+pushDestination w car stop = unless (destinationChecks w car stop) (refused w) (accepted (withCar w car (destined (carAt (w .cars) car) stop)))

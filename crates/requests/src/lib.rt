@@ -2,8 +2,11 @@
 ghost use mathlib.Core.Path.{_≡_};
 ghost use Rattle.requests.specs.Requests as Requests;
 use changes::Changed;
+use changes::Hindered;
 use changes::accepted;
+use changes::ordered;
 use changes::refused;
+use changes::row_of;
 use door::DoorCommand;
 use sound::unloaded;
 use world::QueuedCommand;
@@ -15,27 +18,15 @@ use world::refusal::Refusal;
 pub fn queue_command(world: World, car: u8, command: DoorCommand) -> Changed
     ensures { λ r. ⌜ r ≡ Requests.queueCommand world car command ⌝ }
 {
-    if !world.started {
-        return refused(world, Refusal::NotNow);
-    }
-    let at = car as usize;
-    if 16 <= at {
-        return refused(world, Refusal::NotLoaded);
-    }
-    if unloaded(world.car_count, car) {
-        return refused(world, Refusal::NotLoaded);
-    }
-    let mut row = world.cars[at];
+    let mut row = row_of(world, car);
     let commands = row.command_count;
     if 8 <= commands {
-        return refused(world, Refusal::QueueFull);
+        return ordered(world, car, false, Hindered::By(Refusal::QueueFull), row);
     }
     let queued = QueuedCommand { command };
     row.door_command_queue[commands] = queued;
     row.command_count = commands + 1;
-    let mut next = world;
-    next.cars[at] = row;
-    accepted(next)
+    ordered(world, car, false, Hindered::No, row)
 }
 
 // Kind 9.
@@ -61,24 +52,13 @@ pub fn press_hall_call(world: World, stop: u8, down: bool) -> Changed
 pub fn push_destination(world: World, car: u8, stop: u8) -> Changed
     ensures { λ r. ⌜ r ≡ Requests.pushDestination world car stop ⌝ }
 {
-    if !world.started {
-        return refused(world, Refusal::NotNow);
-    }
-    let at = car as usize;
-    if 16 <= at {
-        return refused(world, Refusal::NotLoaded);
-    }
-    if unloaded(world.car_count, car) | unloaded(world.stop_count, stop) {
-        return refused(world, Refusal::NotLoaded);
-    }
-    let mut row = world.cars[at];
+    let mut row = row_of(world, car);
+    let unnamed = unloaded(world.stop_count, stop);
     let destinations = row.destination_count;
     if 8 <= destinations {
-        return refused(world, Refusal::QueueFull);
+        return ordered(world, car, unnamed, Hindered::By(Refusal::QueueFull), row);
     }
     row.destination_queue[destinations] = stop;
     row.destination_count = destinations + 1;
-    let mut next = world;
-    next.cars[at] = row;
-    accepted(next)
+    ordered(world, car, unnamed, Hindered::No, row)
 }

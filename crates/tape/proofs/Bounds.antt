@@ -1,19 +1,21 @@
 -- A refusal is 1 to 4; a record takes no more words than there are, and its kind is its head's. Assumes nothing.
 use mathlib.Core.Path.{_≡_, refl}
-use mathlib.Core.Bool.{Bool, true, false, _&&_, cond}
+use mathlib.Core.Bool.{Bool, true, false, _&&_}
 use mathlib.Core.List.{List, [], _∷_}
 use Prim.Native.Nat.{ℕ, _+_, _<_, _≤_}
 use native.Mathlib.Omega.{arith}
 use lib.Dec.{ltb, leb, eqb}
 use lib.ListN.{length, getD}
 use borrow.Author.Tests.{ltb-false, leb-true, eqb-true, eqb-false}
-use Rattle.world.specs.Refusal.{Check, check, refusalNumber}
+use Rattle.world.specs.Refusal.{refusalNumber}
 use Rattle.world.specs.declared.refusal.Refusal.{Refusal}
 use Rattle.world.specs.declared.refusal.Refusal.the-variants.{CutShort, UnknownKind}
 use Rattle.laws.proofs.Bools.{and-left, and-right}
+use Rattle.laws.proofs.Choices.{cases}
+use Rattle.world.proofs.Checks.{Passed, all, first-of, unless-has}
 use Rattle.fields.specs.declared.head.Head.{Head}
 use Rattle.tape_records.specs.declared.Decoded.{Decoded}
-use Rattle.tape_records.specs.Answers.{Deed, refused, unless, answer}
+use Rattle.tape_records.specs.Answers.{Deed, refused, answer}
 use Rattle.tape.specs.Tape.{Kind, kindIn, kinds, recordOf, decoded}
 use Rattle.tape_loads.specs.LoadRecords.{servesCount, lineRecord, stopRecord, carRecord, riderRecord}
 use Rattle.tape_orders.specs.OrderRecords.{sendRecord, modeRecord, manualSpeedRecord, doorCommandRecord, hallCallRecord, destinationRecord, enableRecord, tickRecord, startRecord}
@@ -21,32 +23,17 @@ use Rattle.fields.specs.Fields.{headOf}
 use Rattle.layout.specs.Layout.{kindOf}
 use Rattle.tape.specs.Facts.{InBounds, Facts}
 
--- every refusal of the checks is 1 to 4
-abbrev known : List Check → Bool
-known [] = true
-known (c ∷ cs) = (leb 1 (refusalNumber (c .refusal)) && leb (refusalNumber (c .refusal)) 4) && known cs
-
-abbrev Passed : List Check → Type 0
-Passed [] = Unit
-Passed (c ∷ cs) = (c .holds ≡ false) × Passed cs
+-- a refusal that a tape's words bring: 1 to 4
+abbrev ofWords : Refusal → Bool
+ofWords r = leb 1 (refusalNumber r) && leb (refusalNumber r) 4
 
 module _ (ws : List ℕ) where
   abbrev Fine : Decoded → Type 0
   Fine d = InBounds ws (d .read)
 
-  refused-in : (r : Refusal) → (leb 1 (refusalNumber r) && leb (refusalNumber r) 4) ≡ true → Fine (refused r)
+  refused-in : (r : Refusal) → ofWords r ≡ true → Fine (refused r)
   refused-in r e =
       (leb-true 1 (refusalNumber r) (and-left (leb 1 (refusalNumber r)) (leb (refusalNumber r) 4) e), leb-true (refusalNumber r) 4 (and-right (leb 1 (refusalNumber r)) (leb (refusalNumber r) 4) e))
-
-  unless-in : (cs : List Check) (d : Decoded) → known cs ≡ true → (Passed cs → Fine d) → Fine (unless cs d)
-  unless-in [] d e h = h tt
-  unless-in (c ∷ cs) d e h =
-      let n = leb 1 (refusalNumber (c .refusal)) && leb (refusalNumber (c .refusal)) 4 in
-      either (c .holds) (refused-in (c .refusal) (and-left n (known cs) e)) (λ f. unless-in cs d (and-right n (known cs) e) (λ q. h (f, q)))
-    where
-      either : (b : Bool) → Fine (refused (c .refusal)) → (b ≡ false → Fine (unless cs d)) → Fine (cond b (refused (c .refusal)) (unless cs d))
-      either true p q = p
-      either false p q = q refl
 
   -- the answer of a kind, where the head is of that kind
   infixr 5 _and_
@@ -56,11 +43,8 @@ module _ (ws : List ℕ) where
 
   kind-in : (ts : List Kind) → AllFine ts → Fine (kindIn (kindOf (getD ws 0 0)) ts)
   kind-in [] end = refused-in UnknownKind refl
-  kind-in (t ∷ ts) (p and u) = either (eqb (kindOf (getD ws 0 0)) (t .number)) (λ e. p (eqb-true (kindOf (getD ws 0 0)) (t .number) e)) (kind-in ts u)
-    where
-      either : (b : Bool) → (b ≡ true → Fine (answer (t .deed))) → Fine (kindIn (kindOf (getD ws 0 0)) ts) → Fine (cond b (answer (t .deed)) (kindIn (kindOf (getD ws 0 0)) ts))
-      either true p q = p refl
-      either false p q = q
+  kind-in (t ∷ ts) (p and u) =
+      cases Fine (eqb (kindOf (getD ws 0 0)) (t .number)) (λ e. p (eqb-true (kindOf (getD ws 0 0)) (t .number) e)) (λ e. kind-in ts u)
 
   -- a record of so many words
   enough : (used : ℕ) → 0 < used → ltb (length ws) used ≡ false → (0 < used) × (used ≤ length ws)
@@ -86,13 +70,11 @@ module _ (ws : List ℕ) where
       and (λ e. deed (startRecord h) refl (λ q. (omega arith, p, e)))
       and end)
     where
-      deed : (d : Deed) → known (d .checks) ≡ true → (Passed (d .checks) → Fine (d .done)) → Fine (answer d)
-      deed d = unless-in (d .checks) (d .done)
+      deed : (d : Deed) → all ofWords (d .checks) ≡ true → (Passed (d .checks) → Fine (d .done)) → Fine (answer d)
+      deed d e = unless-has Fine (d .checks) refused (d .done) (λ r q. refused-in r (first-of ofWords (d .checks) e q))
 
 pub in-bounds : Facts
 unfolding Facts decoded
-in-bounds ws = go (eqb (length ws) 0) refl
-  where
-    go : (b : Bool) → eqb (length ws) 0 ≡ b → InBounds ws (unless (check CutShort b ∷ []) (recordOf (headOf (getD ws 0 0)) ws) .read)
-    go true e = (omega arith, omega arith)
-    go false e = let n : (length ws ≡ 0) → ⊥ = eqb-false (length ws) 0 e in record-in ws (omega arith)
+in-bounds ws =
+    cases (Fine ws) (eqb (length ws) 0) (λ e. refused-in ws CutShort refl)
+    (λ e. let n : (length ws ≡ 0) → ⊥ = eqb-false (length ws) 0 e in record-in ws (omega arith))

@@ -4,13 +4,13 @@ use mathlib.Core.List.{List, [], _∷_}
 use Prim.Native.Nat.{ℕ}
 use lib.Dec.{eqb}
 use lib.ListN.{length, getD}
-use Rattle.world.specs.Refusal.{check}
+use Rattle.world.specs.Refusal.{check, unless}
 use Rattle.world.specs.declared.refusal.Refusal.the-variants.{CutShort, UnknownKind}
 use Rattle.layout.specs.Layout.{kindOf}
 use Rattle.fields.specs.declared.head.Head.{Head}
 use Rattle.fields.specs.Fields.{headOf}
 use Rattle.tape_records.specs.declared.Decoded.{Decoded}
-use Rattle.tape_records.specs.Answers.{refused, unless, Deed, answer}
+use Rattle.tape_records.specs.Answers.{refused, Deed, answer}
 use Rattle.tape_loads.specs.LoadRecords.{lineRecord, stopRecord, carRecord, riderRecord}
 use Rattle.tape_orders.specs.OrderRecords.{sendRecord, modeRecord, manualSpeedRecord, doorCommandRecord, hallCallRecord, destinationRecord, enableRecord, tickRecord, startRecord}
 
@@ -49,4 +49,4 @@ unfoldable pub recordOf : Head → List ℕ → Decoded
 recordOf h ws = kindIn (h .kind) (kinds h ws)
 
 unfoldable pub decoded : List ℕ → Decoded
-decoded ws = unless (check CutShort (eqb (length ws) 0) ∷ []) (recordOf (headOf (getD ws 0 0)) ws)
+decoded ws = unless (check CutShort (eqb (length ws) 0) ∷ []) refused (recordOf (headOf (getD ws 0 0)) ws)

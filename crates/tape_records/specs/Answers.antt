@@ -5,7 +5,7 @@ use Prim.Native.Nat.{ℕ}
 use lib.Dec.{ltb, eqb}
 use lib.ListN.{replicate}
 use lib.Ieee.{Float, binary64, ofBits}
-use Rattle.world.specs.Refusal.{Check, check}
+use Rattle.world.specs.Refusal.{Check, check, unless}
 use Rattle.world.specs.declared.refusal.Refusal.{Refusal}
 use Rattle.tape_records.specs.declared.Record.{Record}
 use Rattle.tape_records.specs.declared.Read.{Read}
@@ -53,15 +53,10 @@ refused r = alone (Refused r)
 abbrev pub accepted : Record → ℕ → Decoded
 accepted r used = alone (Accepted r used)
 
--- the first refusal whose condition holds, else the answer
-abbrev pub unless : List Check → Decoded → Decoded
-unless [] d = d
-unless (c ∷ cs) d = cond (c .holds) (refused (c .refusal)) (unless cs d)
-
 -- a record: its checks in order, and the answer where none holds
 pub record Deed : Type 0 where
   pub checks : List Check
   pub done : Decoded
 
 abbrev pub answer : Deed → Decoded
-answer d = unless (d .checks) (d .done)
+answer d = unless (d .checks) refused (d .done)

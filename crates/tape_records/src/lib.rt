@@ -1,8 +1,8 @@
 // A tape's records with their values, what is read of a tape, and the checks of a record in their order.
 ghost use mathlib.Core.Path.{_≡_};
 ghost use mathlib.Core.List.{[], _∷_};
-ghost use Rattle.tape_records.specs.Answers.{unless, alone, accepted, refused};
-ghost use Rattle.world.specs.Refusal.{check};
+ghost use Rattle.tape_records.specs.Answers.{alone, accepted, refused};
+ghost use Rattle.world.specs.Refusal.{check, unless};
 use door::DoorCommand;
 use world::CarPlan;
 use world::LineKind;
@@ -95,7 +95,7 @@ pub fn checked(
     found: Record,
     used: usize,
 ) -> Decoded
-    ensures { λ r. ⌜ r ≡ unless (check Refusal.CutShort «cut_short» ∷ check Refusal.FieldOutside «field_outside» ∷ check Refusal.FloatOutside «float_outside» ∷ []) (accepted found used) ⌝ }
+    ensures { λ r. ⌜ r ≡ unless (check Refusal.CutShort «cut_short» ∷ check Refusal.FieldOutside «field_outside» ∷ check Refusal.FloatOutside «float_outside» ∷ []) refused (accepted found used) ⌝ }
 {
     let read = Read::Accepted(found, used);
     checked_read(cut_short, field_outside, float_outside, read)
@@ -108,7 +108,7 @@ pub fn checked_read(
     float_outside: bool,
     read: Read,
 ) -> Decoded
-    ensures { λ r. ⌜ r ≡ unless (check Refusal.CutShort «cut_short» ∷ check Refusal.FieldOutside «field_outside» ∷ check Refusal.FloatOutside «float_outside» ∷ []) (alone read) ⌝ }
+    ensures { λ r. ⌜ r ≡ unless (check Refusal.CutShort «cut_short» ∷ check Refusal.FieldOutside «field_outside» ∷ check Refusal.FloatOutside «float_outside» ∷ []) refused (alone read) ⌝ }
 {
     if cut_short {
         return refused(Refusal::CutShort);

@@ -20,6 +20,7 @@ use Rattle.doors_system.specs.Doors.{standing, carsOf, doorOf, doored, doorsWor
 use Rattle.hall_calls.specs.Clearing.{Standing, clears, clearWord, clearMatchingWords, openedOf, clearTo, clearWordsTo}
 use Rattle.tick.specs.Tick.{tickWorld, tickWords}
 use Rattle.tick.specs.Room.{roomOf, WordsFit}
+use Rattle.laws.specs.Counting.{howMany}
 use Rattle.tick.specs.Counters.{movesIn, movesOf, sumTo, countOf, Low, Counts, NothingWraps}
 use Rattle.tick.proofs.Turns.{Quiet, quiet-none, quiet-if, quiet-more, quiet-join, moves-append, ones, plus-plain, Fair, move-fair, move-still, door-fair}
 use Rattle.tick.proofs.Runs.{stopsIn, Told, run-told, Grown, run-grown}
@@ -118,11 +119,17 @@ module _ (w : World) (dt : Float) (low : Low w) where
   same-ticks = kept doorOf v (λ (u : World). u .ticks) (λ u i s. refl) (carsOf v) ∙ kept (moveOf dt) w (λ (u : World). u .ticks) (λ u i s. refl) (carsOf w)
 
   told : movesIn (tickWords w dt) ≡ sumTo (movesOf (moveOf dt) w) (carsOf w)
-  unfolding tickWords doorsWords movesIn
+  unfolding tickWords doorsWords howMany
   told =
       rw (kind-tick (w .ticks))
-      (move-parts (moved w dt .words) (doored v .words) (clearWordsTo (doored v .opened) (standing v) (carsOf v))
-      ∙ omega (arith, moved-told w dt .told, doored-told v .told, doored-told v .few, calls-quiet (doored v .opened) (standing v) (carsOf v) .none))
+      (omega (
+        arith,
+        move-parts (moved w dt .words) (doored v .words) (clearWordsTo (doored v .opened) (standing v) (carsOf v)),
+        moved-told w dt .told,
+        doored-told v .told,
+        doored-told v .few,
+        calls-quiet (doored v .opened) (standing v) (carsOf v) .none,
+      ))
 
   cars : (i : ℕ) → i < carsOf w → countOf (tickWorld w dt) i ≡ countOf w i + movesOf (moveOf dt) w i
   unfolding tickWorld doorsWorld

@@ -13,6 +13,7 @@ use Rattle.world.specs.declared.World.{World}
 use Rattle.steps.specs.Steps.{Step, Run, runTo, notOpened}
 use Rattle.steps.specs.declared.JustOpened.{JustOpened}
 use Rattle.steps.proofs.Cars.{by-turns, kept}
+use Rattle.laws.specs.Counting.{howMany}
 use Rattle.tick.specs.Counters.{movesIn, movesOf, sumTo}
 use Rattle.tick.proofs.Turns.{ones, Fair, moves-append}
 
@@ -64,7 +65,7 @@ module _
     turn-fair k = fair (runTo f w k .world) k (kept f w (λ (v : World). v .«stop_count») (λ v i s. refl) k)
 
     pub run-told : (k : ℕ) → Told f w room most k (runTo f w k)
-    unfolding runTo stopsIn sumTo movesIn movesOf
+    unfolding runTo stopsIn sumTo howMany movesOf
     run-told n =
         by-turns f w (Told f w room most) n (record { size = omega arith; told = refl; few = omega arith })
         (λ k l t.

@@ -16,7 +16,6 @@ use Rattle.world.specs.declared.StopOption.{StopOption}
 use Rattle.world.specs.declared.StopOption.the-variants.{NoStop, Stop}
 use Rattle.log_words.specs.Words.{word, wordOf, codeOf, ticksOf}
 use Rattle.laws.specs.Numbers.{bit}
-use Rattle.layout.specs.Layout.{kindOf}
 use Rattle.log_words.specs.declared.Event.the-variants.{ElevatorIdle}
 use Rattle.log_words.proofs.Reading.{kind-word}
 use Rattle.steps.specs.Steps.{lineOf, lampsOf, bothLit, unlit, updateIndicators, Step, notOpened}
@@ -33,21 +32,16 @@ use Rattle.doors_system.specs.Doors.{doorTurn, stepBy, turnOn, doorOf}
 use Rattle.door_ticks.specs.Ticks.{Turn, openedAt, departedFrom, doorBy, after}
 use Rattle.door_ticks.proofs.Cases.{door-cases}
 use Rattle.door_commands.specs.declared.Work.{Work}
-use Rattle.tick.specs.Counters.{isMove, movesIn}
+use Rattle.laws.specs.Counting.{howMany}
+use Rattle.laws.proofs.Counting.{how-many-append}
+use Rattle.tick.specs.Counters.{isMove, isMoveWord, movesIn}
 use Rattle.tick.proofs.Passed.{passed-fits}
 use Rattle.laws.proofs.Choices.{both}
 
 -- ---- words
 
 pub moves-append : (ws vs : List ℕ) → movesIn (ws ++ vs) ≡ movesIn ws + movesIn vs
-unfolding movesIn
-moves-append [] vs = omega arith
-moves-append (w ∷ ws) vs = by (isMove (kindOf w)) (moves-append ws vs)
-  where
-    by : (b : Bool) → movesIn (ws ++ vs) ≡ movesIn ws + movesIn vs
-        → cond b (suc (movesIn (ws ++ vs))) (movesIn (ws ++ vs)) ≡ cond b (suc (movesIn ws)) (movesIn ws) + movesIn vs
-    by true h = omega arith
-    by false h = h
+moves-append = how-many-append isMoveWord
 
 -- at most so many words, and none of a move
 pub record Quiet (most : ℕ) (ws : List ℕ) : Type 0 where
@@ -55,11 +49,11 @@ pub record Quiet (most : ℕ) (ws : List ℕ) : Type 0 where
   pub none : movesIn ws ≡ 0
 
 pub quiet-none : Quiet 0 []
-unfolding movesIn
+unfolding howMany
 quiet-none = record { size = omega arith; none = refl }
 
 pub quiet-one : (k n s v : ℕ) → isMove k ≡ false → Quiet 1 (word k n s v ∷ [])
-unfolding movesIn
+unfolding howMany
 quiet-one k n s v h = record { size = omega arith; none = rw (kind-word k n s v, h) refl }
 
 pub quiet-more : {m n : ℕ} {ws : List ℕ} → m ≤ n → Quiet m ws → Quiet n ws
@@ -106,14 +100,14 @@ passing-size i up [] = refl
 passing-size i up (s ∷ ss) = ap suc (passing-size i up ss)
 
 passing-moves : (i : ℕ) (up : Bool) (ss : List ℕ) → movesIn (passingWords i up ss) ≡ length ss
-unfolding passingWords movesIn
+unfolding passingWords howMany
 passing-moves i up [] = refl
-passing-moves i up (s ∷ ss) = rw (kind-word 1 i s (bit up)) (ap suc (passing-moves i up ss))
+passing-moves i up (s ∷ ss) = rw (kind-word 1 i s (bit up)) (omega (arith, passing-moves i up ss))
 
 -- a word of a move, and others
 one-move : (k n s v : ℕ) {m : ℕ} {ws : List ℕ} → isMove k ≡ true → Quiet m ws → movesIn (word k n s v ∷ ws) ≡ 1
-unfolding movesIn
-one-move k n s v h q = rw (kind-word k n s v, h) (ap suc (q .none))
+unfolding howMany
+one-move k n s v h q = rw (kind-word k n s v, h) (omega (arith, q .none))
 
 module _ (w : World) (i : ℕ) where
   abbrev c : Car
@@ -161,7 +155,7 @@ module _ (w : World) (i : ℕ) where
       one-fair (arrives w i (Repositions s) kind r lamps) refl (omega (arith, q .size)) (one-move 3 i s 0 refl q) refl refl
 
 pub move-fair : (dt : Float) (w : World) (i : ℕ) → Fair (min (w .«stop_count») 64 + 3) 64 (w .«total_moves») (carAt (w .cars) i) (moveOf dt w i)
-unfolding movesIn
+unfolding howMany
 move-fair dt w i =
     move-cases (Moves w i) w i (record { size = omega arith; few = omega arith; car = λ l. omega arith; total = λ l. omega arith }) (λ e. pass-fair w i)
     (λ e. arrived-fair w i) (λ e. repositioned-fair w i) dt
@@ -214,7 +208,7 @@ after-shuts {c} {ws} t q h = record {
 }
 
 turn-shuts : (i : ℕ) (c : Car) (atStop traversing : Bool) (next : StopOption) → Shuts c 11 (doorTurn i c atStop traversing next)
-unfolding movesIn
+unfolding howMany
 turn-shuts i c atStop traversing next =
     let k : Work = processDoorCommands c atStop traversing in
     both (Shuts c 11) (c .enabled)
@@ -235,5 +229,5 @@ door-fair w i = step-fair w (carAt (w .cars) i) (turnOn w i (carAt (w .cars) i) 
 
 -- a car that is not enabled has no moves
 pub move-still : (dt : Float) (w : World) (i : ℕ) → carAt (w .cars) i .enabled ≡ false → movesIn (moveOf dt w i .words) ≡ 0
-unfolding moveOf movesIn
+unfolding moveOf howMany
 move-still dt w i e = rw e refl

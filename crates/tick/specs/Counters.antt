@@ -1,7 +1,7 @@
 -- A tick's moves: they are its passing, arrived and repositioned words, and no counter wraps.
 use mathlib.Core.Path.{_≡_}
-use mathlib.Core.Bool.{Bool, _||_, cond}
-use mathlib.Core.List.{List, [], _∷_}
+use mathlib.Core.Bool.{Bool, _||_}
+use mathlib.Core.List.{List}
 use Prim.Native.Nat.{ℕ, zero, suc, _+_, _*_, _^_, _<_, _≤_}
 use lib.Dec.{eqb}
 use lib.Ieee.{Float}
@@ -10,6 +10,7 @@ use Rattle.world.specs.declared.World.{World}
 use Rattle.layout.specs.Layout.{kindOf}
 use Rattle.steps.specs.Steps.{Step, runTo}
 use Rattle.laws.specs.Numbers.{plus}
+use Rattle.laws.specs.Counting.{howMany}
 use Rattle.movement_system.specs.Movement.{moveOf}
 use Rattle.doors_system.specs.Doors.{carsOf}
 use Rattle.tick.specs.Tick.{tickWorld, tickWords}
@@ -18,10 +19,12 @@ use Rattle.tick.specs.Tick.{tickWorld, tickWords}
 abbrev pub isMove : ℕ → Bool
 isMove kind = eqb kind 1 || eqb kind 2 || eqb kind 3
 
+abbrev pub isMoveWord : ℕ → Bool
+isMoveWord w = isMove (kindOf w)
+
 -- how many of them
-unfoldable pub movesIn : List ℕ → ℕ
-movesIn [] = 0
-movesIn (w ∷ ws) = cond (isMove (kindOf w)) (suc (movesIn ws)) (movesIn ws)
+abbrev pub movesIn : List ℕ → ℕ
+movesIn words = howMany isMoveWord words
 
 -- how many car i has in its turn, which begins in the world that the cars before it have left
 unfoldable pub movesOf : (World → ℕ → Step) → World → ℕ → ℕ

@@ -87,13 +87,13 @@ abbrev car : Float → Float → ℕ → Car
 car position velocity stop = sent (newCar (record { line = 0; motion = motion position velocity; «door_transition_ticks» = 1; «door_open_ticks» = 1 })) stop
 
 -- the worlds after n ticks of 0.5, and the words of these ticks
-unfoldable pub worldAfter : ℕ → World → World
-worldAfter zero w = w
-worldAfter (suc n) w = worldAfter n (tickWorld w half)
+unfoldable pub worldAfterTicks : ℕ → World → World
+worldAfterTicks zero w = w
+worldAfterTicks (suc n) w = worldAfterTicks n (tickWorld w half)
 
-unfoldable pub told : ℕ → World → List ℕ
-told zero w = []
-told (suc n) w = tickWords w half ++ told n (tickWorld w half)
+unfoldable pub wordsOfTicks : ℕ → World → List ℕ
+wordsOfTicks zero w = []
+wordsOfTicks (suc n) w = tickWords w half ++ wordsOfTicks n (tickWorld w half)
 
 abbrev position : World → ℕ → Float
 position w i = carAt (w .cars) i .motion .position
@@ -134,22 +134,22 @@ pub record Traps : Type 0 where
   pub goesOn : backwards Float.zero ≡ drivenTo (f64 0xbfd0_0000_0000_0000) (f64 0xbfe0_0000_0000_0000)
   pub isThere : backwards minus-zero ≡ arrivedAt minus-zero
   -- "counting a stop on which a tick ends exactly (neither tick counts it)": the first tick ends on stop 1, the third passes stop 2
-  pub endsOnStop : position (worldAfter 1 onTheStop) 0 ≡ one
-  pub neitherTick : told 3 onTheStop ≡ 0 ∷ 1 ∷ 2 ∷ 0x1002_0001 ∷ []
+  pub endsOnStop : position (worldAfterTicks 1 onTheStop) 0 ≡ one
+  pub neitherTick : wordsOfTicks 3 onTheStop ≡ 0 ∷ 1 ∷ 2 ∷ 0x1002_0001 ∷ []
   -- "a leader's old position": car 1 comes to 5 - 4; behind the old 4 it would stay at 0.75. "A car held at the clamp arrives there"
-  pub leads : position (worldAfter 1 following) 0 ≡ five
-  pub follows : position (worldAfter 1 following) 1 ≡ one
-  pub heldArrives : told 1 following ≡ 0 ∷ 0x2100_0000 ∷ 0x6100_0000 ∷ []
+  pub leads : position (worldAfterTicks 1 following) 0 ≡ five
+  pub follows : position (worldAfterTicks 1 following) 1 ≡ one
+  pub heldArrives : wordsOfTicks 1 following ≡ 0 ∷ 0x2100_0000 ∷ 0x6100_0000 ∷ []
   -- "stepping the door from the tick after arrival (it steps in the same tick)"
-  pub doorSteps : told 1 tape ≡ 0x0000_0000 ∷ 0x2001_0000 ∷ 0x6000_0000 ∷ []
+  pub doorSteps : wordsOfTicks 1 tape ≡ 0x0000_0000 ∷ 0x2001_0000 ∷ 0x6000_0000 ∷ []
   -- "For 0 to 1.5e-9 and a stop at 0.7e-9 the first exceeds the second .. we write none"; the early answer is not what gives none
   pub notEarly : le close (add binary64 Float.zero epsilon) ≡ false
   pub first : startOf tiny (sortedStops tiny 1) (add binary64 Float.zero epsilon) ≡ 1
   pub second : endOf tiny (sortedStops tiny 1) (sub binary64 close epsilon) ≡ 0
   pub writesNone : emitRange tiny (sortedStops tiny 1) NoStop Float.zero close false ≡ []
   -- "After a seam the lower end is taken with lo - 1e-9": the stop at 0 is told, after those before the seam
-  pub seam : told 1 overTheSeam ≡ 0 ∷ 0x1001_0001 ∷ 0x1000_0001 ∷ 0x1002_0001 ∷ []
+  pub seam : wordsOfTicks 1 overTheSeam ≡ 0 ∷ 0x1001_0001 ∷ 0x1000_0001 ∷ 0x1002_0001 ∷ []
   -- the tape: "four ticks of 0.5. Output ..", "moves 1", "Log 17 words: accepted"
-  pub output : told 4 tape ≡ 0x0000_0000 ∷ 0x2001_0000 ∷ 0x6000_0000 ∷ 0x0000_0001 ∷ 0x0000_0002 ∷ 0x7000_0000 ∷ 0x0000_0003 ∷ []
-  pub moves : worldAfter 4 tape .«total_moves» ≡ 1
+  pub output : wordsOfTicks 4 tape ≡ 0x0000_0000 ∷ 0x2001_0000 ∷ 0x6000_0000 ∷ 0x0000_0001 ∷ 0x0000_0002 ∷ 0x7000_0000 ∷ 0x0000_0003 ∷ []
+  pub moves : worldAfterTicks 4 tape .«total_moves» ≡ 1
   pub room : roomOf tape ≡ 17

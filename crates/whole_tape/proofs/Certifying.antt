@@ -15,7 +15,8 @@ use Rattle.record.specs.Calls.{Call, outcome, next, headWord, worldAfter}
 use Rattle.record.specs.declared.Answer.{Answer}
 use Rattle.record.specs.declared.Answer.the-variants.{Accepted, Refused}
 use Rattle.certificate.specs.Certificate.{told, joined}
-use Rattle.report.specs.Report.{noCounts, countsOf, howMany, anyUnknown, countMore, countedReport, reportOf}
+use Rattle.laws.specs.Counting.{howMany}
+use Rattle.report.specs.Report.{noCounts, countsOf, anyUnknown, countMore, countedReport, reportOf}
 use Rattle.laws.specs.Numbers.{plus}
 use Rattle.report.specs.declared.Counts.{Counts}
 use Rattle.report.proofs.Counted as Counted

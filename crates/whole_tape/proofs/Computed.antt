@@ -35,6 +35,7 @@ use Rattle.modes.specs.Modes.{setMode, setManualSpeed}
 use Rattle.requests.specs.Requests.{queueCommand}
 use Rattle.record.specs.Record.{tickOnce, recordOf}
 use lib.Count.{onesIn, ones}
+use Rattle.laws.specs.Counting.{howMany}
 use Rattle.report.specs.Report as Report
 use Rattle.study_text.specs.Text.{wordsOf, reportLine}
 use Rattle.study_numbers.specs.NumberText.{wordLine, wordLines, decimalTo}
@@ -45,9 +46,9 @@ use Rattle.whole_tape.specs.Certified.{made, AllAccepted}
 use Rattle.whole_tape.specs.Example.{PaperTape, PaperCalls}
 
 pub paper-tape : PaperTape
-unfolding PaperTape studyText printed ending wordsOf wordLine wordLines decimalTo reportLine Report.countsOf Report.countMore Report.countedReport Report.howMany Report.anyUnknown Report.waitingIn kindOf nOf sOf vOf onesIn ones recordOf Tape.recordOf tickOnce decoded floatAt rawZeroAt servesCount servesOutside servesTo lineFieldsOutside lineFloatsOutside lineKindOf lineRecord loadLine loadStop loadCar start send setMode setManualSpeed queueCommand anyTo lineBroken carBroken riderBroken countsBroken broken roomOf emptyWorld tickWorld tickWords moved moveOf doorsWorld doorsWords doored doorOf clearOne clearWord clearTo clearWordsTo atStop traversingTo hasRiderTraversing workTo workWordsTo processDoorCommands commandWords countIn startOf endOf between unlessTarget without emitRange passingWords ridersTo queuedTo directionFromRemainingWork popped plus lineOf runTo runCars word tickWord positionBefore stopBefore inserted sortedStops leaderTo loopLeaderPos standsAt firstStanding loopNextStopForCar findStopAtPosition called decelerated accelerated newVelocity tickMovement tickMovementCyclic headwayClampTarget manualVelocity wrapPosition forwardDistance abs signum isFinite max clamp remEuclid ofBits add sub mul div rem neg lt le eq isNan
+unfolding PaperTape studyText printed ending wordsOf wordLine wordLines decimalTo reportLine Report.countsOf Report.countMore Report.countedReport howMany Report.anyUnknown Report.waitingIn kindOf nOf sOf vOf onesIn ones recordOf Tape.recordOf tickOnce decoded floatAt rawZeroAt servesCount servesOutside servesTo lineFieldsOutside lineFloatsOutside lineKindOf lineRecord loadLine loadStop loadCar start send setMode setManualSpeed queueCommand anyTo lineBroken carBroken riderBroken countsBroken broken roomOf emptyWorld tickWorld tickWords moved moveOf doorsWorld doorsWords doored doorOf clearOne clearWord clearTo clearWordsTo atStop traversingTo hasRiderTraversing workTo workWordsTo processDoorCommands commandWords countIn startOf endOf between unlessTarget without emitRange passingWords ridersTo queuedTo directionFromRemainingWork popped plus lineOf runTo runCars word tickWord positionBefore stopBefore inserted sortedStops leaderTo loopLeaderPos standsAt firstStanding loopNextStopForCar findStopAtPosition called decelerated accelerated newVelocity tickMovement tickMovementCyclic headwayClampTarget manualVelocity wrapPosition forwardDistance abs signum isFinite max clamp remEuclid ofBits add sub mul div rem neg lt le eq isNan
 paper-tape = refl
 
 pub paper-calls : PaperCalls
-unfolding made AllAccepted outcome next ending wordsOf wordLine wordLines decimalTo reportLine Report.countsOf Report.countMore Report.countedReport Report.howMany Report.anyUnknown Report.waitingIn kindOf nOf sOf vOf onesIn ones recordOf Tape.recordOf tickOnce decoded floatAt rawZeroAt servesCount servesOutside servesTo lineFieldsOutside lineFloatsOutside lineKindOf lineRecord loadLine loadStop loadCar start send setMode setManualSpeed queueCommand anyTo lineBroken carBroken riderBroken countsBroken broken roomOf emptyWorld tickWorld tickWords moved moveOf doorsWorld doorsWords doored doorOf clearOne clearWord clearTo clearWordsTo atStop traversingTo hasRiderTraversing workTo workWordsTo processDoorCommands commandWords countIn startOf endOf between unlessTarget without emitRange passingWords ridersTo queuedTo directionFromRemainingWork popped plus lineOf runTo runCars word tickWord positionBefore stopBefore inserted sortedStops leaderTo loopLeaderPos standsAt firstStanding loopNextStopForCar findStopAtPosition called decelerated accelerated newVelocity tickMovement tickMovementCyclic headwayClampTarget manualVelocity wrapPosition forwardDistance abs signum isFinite max clamp remEuclid ofBits add sub mul div rem neg lt le eq isNan
+unfolding made AllAccepted outcome next ending wordsOf wordLine wordLines decimalTo reportLine Report.countsOf Report.countMore Report.countedReport howMany Report.anyUnknown Report.waitingIn kindOf nOf sOf vOf onesIn ones recordOf Tape.recordOf tickOnce decoded floatAt rawZeroAt servesCount servesOutside servesTo lineFieldsOutside lineFloatsOutside lineKindOf lineRecord loadLine loadStop loadCar start send setMode setManualSpeed queueCommand anyTo lineBroken carBroken riderBroken countsBroken broken roomOf emptyWorld tickWorld tickWords moved moveOf doorsWorld doorsWords doored doorOf clearOne clearWord clearTo clearWordsTo atStop traversingTo hasRiderTraversing workTo workWordsTo processDoorCommands commandWords countIn startOf endOf between unlessTarget without emitRange passingWords ridersTo queuedTo directionFromRemainingWork popped plus lineOf runTo runCars word tickWord positionBefore stopBefore inserted sortedStops leaderTo loopLeaderPos standsAt firstStanding loopNextStopForCar findStopAtPosition called decelerated accelerated newVelocity tickMovement tickMovementCyclic headwayClampTarget manualVelocity wrapPosition forwardDistance abs signum isFinite max clamp remEuclid ofBits add sub mul div rem neg lt le eq isNan
 paper-calls = record { ten = refl; accepted = (refl, (refl, (refl, (refl, (refl, (refl, (refl, (refl, (refl, (refl, tt)))))))))); none = refl }

@@ -1,5 +1,6 @@
--- The paper's number of each refusal, and a refusal's condition as data.
-use mathlib.Core.Bool.{Bool}
+-- The paper's number of each refusal, a refusal's condition as data, and the first that holds.
+use mathlib.Core.Bool.{Bool, cond}
+use mathlib.Core.List.{List, [], _∷_}
 use Prim.Native.Nat.{ℕ}
 use Rattle.world.specs.declared.refusal.Refusal.{Refusal}
 use Rattle.world.specs.declared.refusal.Refusal.the-variants.{BrokenWorld, CutShort, UnknownKind, FieldOutside, FloatOutside, LogKind, NotNow, NotNext, NotLoaded, CannotGo, QueueFull, LastTick, LogShort}
@@ -26,3 +27,8 @@ pub record Check : Type 0 where
 
 abbrev pub check : Refusal → Bool → Check
 check r b = record { refusal = r; holds = b }
+
+-- "Checked in the order of the numbers": what is made of the first refusal whose condition holds, else what follows
+abbrev pub unless : {A : Type 0} → List Check → (Refusal → A) → A → A
+unless [] refused next = next
+unless (c ∷ cs) refused next = cond (c .holds) (refused (c .refusal)) (unless cs refused next)

@@ -1,76 +1,43 @@
 -- `orders::send` meets its contract. Assumes nothing.
 use mathlib.Core.Path.{_∙_}
-use borrow.Author.Tests.{le-leb, lt-leb}
-use Rattle.orders.specs.Orders.{send}
-use borrow.Author.Needs.{needs}
+use mathlib.Core.Bool.{Bool, not, _||_}
+use mathlib.Core.List.{[], _∷_}
+use Prim.Native.Nat.{ℕ}
+use Rattle.world.specs.With.{withCar}
+use Rattle.world.specs.Refusal.{check, unless}
+use Rattle.world.specs.declared.World.{World}
+use Rattle.world.specs.declared.Car.{Car}
+use Rattle.world.specs.declared.refusal.Refusal.the-variants.{CannotGo}
+use Rattle.sound.specs.Sound.{unloaded}
+use Rattle.changes.specs.Changes.{refused, accepted}
+use Rattle.changes.specs.Parts.{ordered}
+use Rattle.changes.specs.declared.Changed.{Changed}
+use Rattle.changes.proofs.Rows.{by-row}
+use Rattle.orders.specs.Orders.{canGo, sent, send}
 use Rattle.orders.proofs.send.Statement.{statement}
 use Rattle.orders.proofs.send.Tie as tie
 
+-- what becomes of a car with the row x
+abbrev next : World → ℕ → ℕ → Bool → Car → Changed
+next w car stop reposition x =
+    unless (check CannotGo (not (x .enabled) || not (canGo (x .phase))) ∷ []) (refused w) (accepted (withCar w car (sent x stop reposition)))
+
 returns : tie.Need-returns
-unfolding send
-returns c = c .refused .ensures ∙ rw (c .before .if1 .taken)
+unfolding ordered send
+returns c =
+    let a = c .before .before .before .before .before .before .args in
+    by-row (a .world) (a .car) (unloaded (a .world .«stop_count») (a .stop)) (next (a .world) (a .car) (a .stop) (a .reposition))
+    (c .ordered .ensures ∙ rw (c .before .before .before .before .unloaded .ensures, ← c .before .before .before .before .before .row-of .ensures, ← c .before .before .can-go .ensures, c .before .if1 .taken))
 
 returns-2 : tie.Need-returns-2
-unfolding send
-returns-2 c = c .refused2 .ensures ∙ rw (
-  c .before .before .if1 .left,
-  le-leb 16 (c .before .before .before .args .car) (c .before .if2 .taken),
-)
-
-returns-3 : tie.Need-returns-3
-unfolding send
-returns-3 c = c .refused3 .ensures ∙ rw (
-  c .before .before .before .before .before .if1 .left,
-  lt-leb 16 (c .before .before .before .before .before .before .args .car) (c .before .before .before .before .if2 .left),
-  ← c .before .before .before .unloaded .ensures,
-  ← c .before .before .unloaded2 .ensures,
-  c .before .if3 .taken,
-)
-
-returns-4 : tie.Need-returns-4
-unfolding send
-returns-4 c = c .refused4 .ensures ∙ rw (
-  c .before .before .before .before .before .before .before .before .before .if1 .left,
-  lt-leb 16 (c .before .before .before .before .before .before .before .before .before .before .args .car) (c .before .before .before .before .before .before .before .before .if2 .left),
-  ← c .before .before .before .before .before .before .before .unloaded .ensures,
-  ← c .before .before .before .before .before .before .unloaded2 .ensures,
-  c .before .before .before .before .before .if3 .left,
-  ← c .before .before .can-go .ensures,
-  c .before .if4 .taken,
-)
-
-returns-5 : tie.Need-returns-5
-unfolding send
-returns-5 c = c .accepted .ensures ∙ rw (
-  c .before .before .before .before .before .before .before .before .before .before .if1 .left,
-  lt-leb 16 (c .before .before .before .before .before .before .before .before .before .before .before .args .car) (c .before .before .before .before .before .before .before .before .before .if2 .left),
-  ← c .before .before .before .before .before .before .before .before .unloaded .ensures,
-  ← c .before .before .before .before .before .before .before .unloaded2 .ensures,
-  c .before .before .before .before .before .before .if3 .left,
-  ← c .before .before .before .can-go .ensures,
-  c .before .before .if4 .left,
-  c .before .sent .ensures,
-)
+unfolding ordered send
+returns-2 c =
+    let a = c .before .before .before .before .before .before .before .args in
+    by-row (a .world) (a .car) (unloaded (a .world .«stop_count») (a .stop)) (next (a .world) (a .car) (a .stop) (a .reposition))
+    (c .ordered2 .ensures
+    ∙ rw (c .before .sent .ensures, c .before .before .before .before .before .unloaded .ensures, ← c .before .before .before .before .before .before .row-of .ensures, ← c .before .before .before .can-go .ensures, c .before .before .if1 .left))
 
 pub send-spec : {M : Type 1} → statement M
 send-spec =
     tie.close
-    (tie.spec
-    (λ c κs. tt)
-    returns
-    (λ c κs. tt)
-    returns-2
-    (λ c κs. tt)
-    (λ c κs. tt)
-    (λ c κs. tt)
-    returns-3
-    (λ c. search needs)
-    (λ c. search needs)
-    (λ c κs. tt)
-    (λ c κs. tt)
-    returns-4
-    (λ c κs. tt)
-    (λ c. search needs)
-    (λ c. search needs)
-    (λ c κs. tt)
-    returns-5)
+    (tie.spec (λ c κs. tt) (λ c κs. tt) (λ c κs. tt) (λ c κs. tt) returns (λ c κs. tt) (λ c κs. tt) returns-2)

@@ -4,15 +4,15 @@ use mathlib.Core.Bool.{true, false}
 use mathlib.Core.List.{[], _∷_}
 use Rattle.world.specs.declared.refusal.Refusal.the-variants.{CutShort, FieldOutside, FloatOutside}
 use Rattle.tape_records.specs.declared.Decoded.{Decoded}
-use Rattle.world.specs.Refusal.{check}
-use Rattle.tape_records.specs.Answers.{refused, alone, unless}
+use Rattle.world.specs.Refusal.{check, unless}
+use Rattle.tape_records.specs.Answers.{refused, alone}
 use Rattle.tape_records.proofs.checked_read.Statement.{statement}
 use Rattle.tape_records.proofs.checked_read.Tie as tie
 
 -- the four answers
 module _ (s : tie.Start) where
   abbrev all : Decoded
-  all = unless (check CutShort (s .args .cut-short) ∷ check FieldOutside (s .args .field-outside) ∷ check FloatOutside (s .args .float-outside) ∷ []) (alone (s .args .read))
+  all = unless (check CutShort (s .args .cut-short) ∷ check FieldOutside (s .args .field-outside) ∷ check FloatOutside (s .args .float-outside) ∷ []) refused (alone (s .args .read))
 
   first : s .args .cut-short ≡ true → refused CutShort ≡ all
   first p = rw p

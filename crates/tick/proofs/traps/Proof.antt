@@ -21,12 +21,12 @@ use Rattle.doors_system.specs.Doors.{doorOf, doored, doorsWorld, doorsWords}
 use Rattle.hall_calls.specs.Clearing.{clearWord, clearTo, clearWordsTo}
 use Rattle.tick.specs.Tick.{tickWorld, tickWords}
 use Rattle.tick.specs.Room.{roomOf}
-use Rattle.tick.specs.Traps.{Traps, worldAfter, told}
+use Rattle.tick.specs.Traps.{Traps, worldAfterTicks, wordsOfTicks}
 use Rattle.tick.proofs.traps.Statement.{statement}
 use Rattle.tick.proofs.traps.Tie as tie
 
 traps : Traps
-unfolding worldAfter told roomOf emptyWorld tickWorld tickWords moved moveOf doorsWorld doorsWords doored doorOf clearWord clearTo clearWordsTo workTo workWordsTo processDoorCommands commandWords countIn startOf endOf between unlessTarget without emitRange passingWords ridersTo queuedTo directionFromRemainingWork popped plus lineOf runTo runCars word tickWord positionBefore stopBefore inserted sortedStops leaderTo loopLeaderPos loopNextStopForCar called decelerated accelerated newVelocity tickMovement tickMovementCyclic headwayClampTarget wrapPosition forwardDistance abs signum isFinite max remEuclid ofBits add sub mul div rem neg lt le eq isNan
+unfolding worldAfterTicks wordsOfTicks roomOf emptyWorld tickWorld tickWords moved moveOf doorsWorld doorsWords doored doorOf clearWord clearTo clearWordsTo workTo workWordsTo processDoorCommands commandWords countIn startOf endOf between unlessTarget without emitRange passingWords ridersTo queuedTo directionFromRemainingWork popped plus lineOf runTo runCars word tickWord positionBefore stopBefore inserted sortedStops leaderTo loopLeaderPos loopNextStopForCar called decelerated accelerated newVelocity tickMovement tickMovementCyclic headwayClampTarget wrapPosition forwardDistance abs signum isFinite max remEuclid ofBits add sub mul div rem neg lt le eq isNan
 traps = record {
   plusZero = refl;
   minusZero = refl;
