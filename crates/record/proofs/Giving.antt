@@ -37,6 +37,10 @@ Says r w f = (r .answer ≡ Refused f) × (r .world ≡ w)
 refusal-gives : {r : Recorded} {w : World} {log : List ℕ} {f : Refusal} → Says r w f → Gives r log (refused w log f)
 refusal-gives h = record { answer = h .0; world = h .1; log = refl }
 
+-- what is refused is not taken
+not-both : (r : Refusal) → Taken.Refused r ≡ Taken.Accepted → ⊥
+not-both r q = let z : _≡_ {A = ℕ} 0 1 = cc in omega arith
+
 module _ (w : World) (log : List ℕ) where
   -- ---- what the state says of a tick
 
@@ -63,7 +67,7 @@ module _ (w : World) (log : List ℕ) where
   -- a tick that is taken has room
   has-room : tickSays ≡ Taken.Accepted → roomOf w ≤ length log
   unfolding tickTaken roomOf
-  has-room e = ltb-false (length log) (roomOf w) (unless-passed (checksOfTick w log) (λ r q. let z : _≡_ {A = ℕ} 0 1 = cc in omega arith) e .0 .1 .1 .0)
+  has-room e = ltb-false (length log) (roomOf w) (unless-passed (checksOfTick w log) not-both e .0 .1 .1 .0)
 
   -- ---- what was read
 
