@@ -41,12 +41,12 @@ use Rattle.study_text.specs.Text.{wordsOf, reportLine}
 use Rattle.study_numbers.specs.NumberText.{wordLine, wordLines, decimalTo}
 use Rattle.play.specs.Play.{ending}
 use Rattle.record.specs.Calls.{outcome, next}
-use Rattle.whole_tape.specs.Study.{printed, studyText}
-use Rattle.whole_tape.specs.Certified.{made, AllAccepted}
+use Rattle.whole_tape.specs.Study.{made, said, studyText}
+use Rattle.whole_tape.specs.Certified.{AllAccepted}
 use Rattle.whole_tape.specs.Example.{PaperTape, PaperCalls}
 
 pub paper-tape : PaperTape
-unfolding PaperTape studyText printed ending wordsOf wordLine wordLines decimalTo reportLine Report.countsOf Report.countMore Report.countedReport howMany Report.anyUnknown Report.waitingIn kindOf nOf sOf vOf onesIn ones recordOf Tape.recordOf tickOnce decoded floatAt rawZeroAt servesCount servesOutside servesTo lineFieldsOutside lineFloatsOutside lineKindOf lineRecord loadLine loadStop loadCar start send setMode setManualSpeed queueCommand anyTo lineBroken carBroken riderBroken countsBroken broken roomOf emptyWorld tickWorld tickWords moved moveOf doorsWorld doorsWords doored doorOf clearOne clearWord clearTo clearWordsTo atStop traversingTo hasRiderTraversing workTo workWordsTo processDoorCommands commandWords countIn startOf endOf between unlessTarget without emitRange passingWords ridersTo queuedTo directionFromRemainingWork popped plus lineOf runTo runCars word tickWord positionBefore stopBefore inserted sortedStops leaderTo loopLeaderPos standsAt firstStanding loopNextStopForCar findStopAtPosition called decelerated accelerated newVelocity tickMovement tickMovementCyclic headwayClampTarget manualVelocity wrapPosition forwardDistance abs signum isFinite max clamp remEuclid ofBits add sub mul div rem neg lt le eq isNan
+unfolding PaperTape studyText made said outcome ending wordsOf wordLine wordLines decimalTo reportLine Report.countsOf Report.countMore Report.countedReport howMany Report.anyUnknown Report.waitingIn kindOf nOf sOf vOf onesIn ones recordOf Tape.recordOf tickOnce decoded floatAt rawZeroAt servesCount servesOutside servesTo lineFieldsOutside lineFloatsOutside lineKindOf lineRecord loadLine loadStop loadCar start send setMode setManualSpeed queueCommand anyTo lineBroken carBroken riderBroken countsBroken broken roomOf emptyWorld tickWorld tickWords moved moveOf doorsWorld doorsWords doored doorOf clearOne clearWord clearTo clearWordsTo atStop traversingTo hasRiderTraversing workTo workWordsTo processDoorCommands commandWords countIn startOf endOf between unlessTarget without emitRange passingWords ridersTo queuedTo directionFromRemainingWork popped plus lineOf runTo runCars word tickWord positionBefore stopBefore inserted sortedStops leaderTo loopLeaderPos standsAt firstStanding loopNextStopForCar findStopAtPosition called decelerated accelerated newVelocity tickMovement tickMovementCyclic headwayClampTarget manualVelocity wrapPosition forwardDistance abs signum isFinite max clamp remEuclid ofBits add sub mul div rem neg lt le eq isNan
 paper-tape = refl
 
 pub paper-calls : PaperCalls

@@ -10,17 +10,18 @@ use lib.Seq.{drop-append-le}
 use borrow.Author.Tests.{ltb-true, leb-true, eqb-true, eqb-false, ne-eqb, not-true}
 use Rattle.world.specs.declared.World.{World}
 use Rattle.record.specs.Record.{Outcome, recordOf, isAccepted, usedOf}
+use Rattle.record.specs.Calls.{outcome}
 use Rattle.conditions.specs.Conditions.{Kept, FirstCondition}
 use Rattle.record.specs.declared.Answer.{Answer}
 use Rattle.record.specs.declared.Answer.the-variants.{Accepted, Refused}
 use Rattle.conditions.proofs.Answering.{first-condition}
 use Rattle.report.specs.declared.Counts.{Counts}
 use Rattle.study_text.specs.Text.{word, wordsOf}
-use Rattle.play.specs.Play.{told, countsAfter, ending}
+use Rattle.play.specs.Play.{told, countsAfter}
 use Rattle.pieces.specs.Pieces.{Playing, after, nextRecord, ready, hasRoom, goes, playTo, ends, closed, close, advanced, playing, fresh}
 use Rattle.pieces.proofs.Sizes.{words-drop, words-few}
 use Rattle.laws.proofs.Bools.{and-left, and-right}
-use Rattle.whole_tape.specs.Study.{goesOn, printed, studyText}
+use Rattle.whole_tape.specs.Study.{Made, madeFirst, unlessRefused, made, goesOn, said, printed, studyText}
 use Rattle.whole_tape.specs.WholeTape.{Longest, stillPrints, begun, Round, given, emptied, round, afterRounds, wroteOut, allRead, InOrder, Rounds, Over}
 use Rattle.whole_tape.proofs.Ignoring.{longest}
 
@@ -52,21 +53,28 @@ module _ (w : World) (ws log : List ℕ) where
 pub fewer : (b : List ℕ) (used : ℕ) → 0 < used → used ≤ length (wordsOf b) → length (wordsOf (drop (4 * used) b)) < length (wordsOf b)
 fewer b used p h = rw (words-drop b used (4 * used) refl, length-drop) (omega arith)
 
-goes-same : (a : Answer) (s t : List ℕ) → (isAccepted a ≡ true → s ≡ t) → goesOn a s ≡ goesOn a t
-goes-same (Accepted used written) s t h = h refl
-goes-same (Refused r) s t h = refl
+rest-same : (a : Answer) (b : List ℕ) (x y : Made) → (isAccepted a ≡ true → x ≡ y) → unlessRefused a b x ≡ unlessRefused a b y
+rest-same (Accepted used written) b x y h = h refl
+rest-same (Refused r) b x y h = refl
+
+abbrev made-then : List ℕ → List ℕ → Made → Made
+made-then log b x = cond (eqb (length (wordsOf b)) 0) (record { calls = []; left = b }) (madeFirst (record { words = wordsOf b; log = log }) x)
+
+made-enough : (n m : ℕ) (w : World) (log b : List ℕ) → length (wordsOf b) < n → length (wordsOf b) < m → made n w log b ≡ made m w log b
+unfolding made
+made-enough zero m w log b h g = absurd (omega arith)
+made-enough (suc n) zero w log b h g = absurd (omega arith)
+made-enough (suc n) (suc m) w log b h g =
+    let o = recordOf w (wordsOf b) log in
+    let k = kept w (wordsOf b) log in
+    ap (made-then log b)
+    (rest-same (o .answer) b _ _ (λ e.
+    let l = fewer b (usedOf (o .answer)) (k .some e) (k .used) in
+    made-enough n m (o .world) (o .log) (drop (4 * usedOf (o .answer)) b) (omega arith) (omega arith)))
 
 enough : (n m : ℕ) (w : World) (c : Counts) (log b : List ℕ) → length (wordsOf b) < n → length (wordsOf b) < m → printed n w c log b ≡ printed m w c log b
 unfolding printed
-enough zero m w c log b h g = absurd (omega arith)
-enough (suc n) zero w c log b h g = absurd (omega arith)
-enough (suc n) (suc m) w c log b h g =
-    let o = recordOf w (wordsOf b) log in
-    let k = kept w (wordsOf b) log in
-    ap (λ (t : List ℕ). cond (eqb (length (wordsOf b)) 0) (ending w c (length b)) (told (o .answer) (o .log) ++ t))
-    (goes-same (o .answer) _ _ (λ e.
-    let l = fewer b (usedOf (o .answer)) (k .some e) (k .used) in
-    enough n m (o .world) (countsAfter (o .answer) (o .log) c) (o .log) (drop (4 * usedOf (o .answer)) b) (omega arith) (omega arith)))
+enough n m w c log b h g = ap (λ (x : Made). said w c (x .calls) (x .left)) (made-enough n m w log b h g)
 
 -- ---- a record
 
@@ -89,8 +97,15 @@ some-words ended n e = go (leb 69 n) refl
 -- what is printed of a record and after it
 printed-one : (n : ℕ) (w : World) (c : Counts) (log b : List ℕ) (o : Outcome) → recordOf w (wordsOf b) log ≡ o → 0 < length (wordsOf b)
     → printed (suc n) w c log b ≡ told (o .answer) (o .log) ++ goesOn (o .answer) (printed n (o .world) (countsAfter (o .answer) (o .log) c) (o .log) (drop (4 * usedOf (o .answer)) b))
-unfolding printed
-printed-one n w c log b o e h = rw (e, ne-eqb (length (wordsOf b)) 0 (λ z. omega arith))
+unfolding printed made said outcome
+printed-one n w c log b o e h =
+    rw (ne-eqb (length (wordsOf b)) 0 (λ z. omega arith), e)
+    (ap (λ (t : List ℕ). told (o .answer) (o .log) ++ t)
+    (goes-made (o .answer) b (made n (o .world) (o .log) (drop (4 * usedOf (o .answer)) b)) (λ (m : Made). said (o .world) (countsAfter (o .answer) (o .log) c) (m .calls) (m .left))))
+  where
+    goes-made : (a : Answer) (b : List ℕ) (m : Made) (f : Made → List ℕ) → goesOn a (f (unlessRefused a b m)) ≡ goesOn a (f m)
+    goes-made (Accepted used written) b m f = refl
+    goes-made (Refused r) b m f = refl
 
 cond-goes : (a : Answer) (s t : List ℕ) → (isAccepted a ≡ true → s ≡ t) → cond (not (isAccepted a)) [] s ≡ goesOn a t
 cond-goes (Accepted used written) s t h = h refl
@@ -137,7 +152,7 @@ play-prints (suc n) ended p more h = go (goes ended (p .over) (length (wordsOf (
     go false e i = refl
 
 close-prints : (ended : Bool) (p : Playing) (more : List ℕ) → (ended ≡ true → more ≡ []) → stillPrints (close ended p) more ≡ stillPrints p more
-unfolding close stillPrints printed
+unfolding close stillPrints printed made said
 close-prints ended p more h = go (ends ended (p .over) (length (wordsOf (p .bytes))) (length (p .text))) refl
   where
     go : (b : Bool) → ends ended (p .over) (length (wordsOf (p .bytes))) (length (p .text)) ≡ b → stillPrints (cond b (closed p) p) more ≡ stillPrints p more
@@ -177,7 +192,7 @@ rounds-print p (r ∷ rs) more h =
     rest-none (x ∷ a) b e = absurd (let z : _≡_ {A = ℕ} 0 1 = cc in omega arith)
 
 begun-prints : (tape : List ℕ) → stillPrints begun tape ≡ studyText tape
-unfolding stillPrints studyText
+unfolding stillPrints studyText printed
 begun-prints tape = refl
 
 no-text : (p : Playing) (rs : List Round) → p .text ≡ [] → afterRounds p rs .text ≡ []

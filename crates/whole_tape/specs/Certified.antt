@@ -1,44 +1,18 @@
 -- What the study prints is of record calls as the certificate has them: the words of the joined log, and a report that counts them.
 use mathlib.Core.Path.{_≡_}
-use mathlib.Core.Bool.{true, cond}
+use mathlib.Core.Bool.{true}
 use mathlib.Core.List.{List, [], _∷_, _++_}
-use Prim.Native.Nat.{ℕ, zero, suc, _*_, _^_, _<_}
-use lib.Dec.{eqb}
-use lib.ListN.{length, drop, replicate}
+use Prim.Native.Nat.{ℕ, _^_, _<_}
+use lib.ListN.{length}
 use Rattle.world.specs.World.{emptyWorld}
 use Rattle.world.specs.declared.World.{World}
-use Rattle.record.specs.Record.{Outcome, recordOf, isAccepted, usedOf}
+use Rattle.record.specs.Record.{isAccepted}
 use Rattle.record.specs.Calls.{Call, outcome, next, worldAfter}
-use Rattle.record.specs.declared.Answer.{Answer}
-use Rattle.record.specs.declared.Answer.the-variants.{Accepted, Refused}
 use Rattle.certificate.specs.Certificate.{joined}
-use Rattle.report.specs.Report.{noCounts, countMore, reportOf}
-use Rattle.study_text.specs.Text.{wordsOf}
+use Rattle.report.specs.Report.{reportOf}
 use Rattle.study_numbers.specs.NumberText.{wordLines}
-use Rattle.play.specs.Play.{ending, lastLine}
-use Rattle.whole_tape.specs.Study.{studyText}
-
--- the calls that a study makes of these bytes, and the bytes that are left then: each call is lent the log as the one before left it, and none follows a refusal
-pub record Made : Type 0 where
-  pub calls : List Call
-  pub left : List ℕ
-
-abbrev pub madeFirst : Call → Made → Made
-madeFirst c m = record { calls = c ∷ m .calls; left = m .left }
-
-abbrev pub unlessRefused : Answer → List ℕ → Made → Made
-unlessRefused (Accepted used written) bytes m = m
-unlessRefused (Refused r) bytes m = record { calls = []; left = bytes }
-
-unfoldable pub made : ℕ → World → List ℕ → List ℕ → Made
-made zero w log bytes = record { calls = []; left = bytes }
-made (suc more) w log bytes =
-    let o = recordOf w (wordsOf bytes) log in
-    cond (eqb (length (wordsOf bytes)) 0) (record { calls = []; left = bytes })
-    (madeFirst (record { words = wordsOf bytes; log = log }) (unlessRefused (o .answer) bytes (made more (o .world) (o .log) (drop (4 * usedOf (o .answer)) bytes))))
-
-abbrev pub madeOf : List ℕ → Made
-madeOf tape = made (suc (length tape)) emptyWorld (replicate 2048 0) tape
+use Rattle.play.specs.Play.{lastLine}
+use Rattle.whole_tape.specs.Study.{madeOf, studyText}
 
 -- no call is refused
 unfoldable pub AllAccepted : World → List Call → Type 0

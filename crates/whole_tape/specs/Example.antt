@@ -5,8 +5,8 @@ use Prim.Native.Nat.{ℕ, _/_, _%_, _^_}
 use Rattle.study_numbers.specs.NumberText.{text, newline}
 use lib.ListN.{length}
 use Rattle.world.specs.World.{emptyWorld}
-use Rattle.whole_tape.specs.Study.{studyText}
-use Rattle.whole_tape.specs.Certified.{madeOf, AllAccepted}
+use Rattle.whole_tape.specs.Study.{madeOf, studyText}
+use Rattle.whole_tape.specs.Certified.{AllAccepted}
 
 -- a word's bytes, the lowest first
 abbrev pub littleEndian : List ℕ → List ℕ
