@@ -69,27 +69,27 @@ given c = c .before .before .before .before .before .args .world
 abbrev moves : Third → Second
 moves c = c .before .before .before
 
--- from the moves: to the tick's word, the sort, what the state said, what was read, that the world is not broken, the first loop
+-- from the moves to the tick's word, from there to the sort, to what the state said, to the tick that was read, to the reading, to where the world is not broken, to the first loop
 abbrev telling : Second → tie.After-emit Inv-loop μ-loop Inv-loop2 μ-loop2 Inv-loop3 μ-loop3
 telling c = c .before .before .before
 
 abbrev sorting : Second → tie.After-sorted-stops Inv-loop μ-loop Inv-loop2 μ-loop2 Inv-loop3 μ-loop3
-sorting c = c .before .before .before .before .before
+sorting c = telling c .before .before
 
 abbrev asking : Second → tie.After-enum-told Inv-loop μ-loop Inv-loop2 μ-loop2 Inv-loop3 μ-loop3
-asking c = c .before .before .before .before .before .before .before .before
+asking c = sorting c .before .before .before
 
 abbrev ticking : Second → tie.After-read3 Inv-loop μ-loop Inv-loop2 μ-loop2 Inv-loop3 μ-loop3
-ticking c = c .before .before .before .before .before .before .before .before .before .before .before .before
+ticking c = asking c .before .before .before .before
 
 abbrev reading : Second → tie.After-decode Inv-loop μ-loop Inv-loop2 μ-loop2 Inv-loop3 μ-loop3
-reading c = c .before .before .before .before .before .before .before .before .before .before .before .before .before .before .before
+reading c = ticking c .before .before .before
 
 abbrev judging : Second → tie.Else1 Inv-loop μ-loop Inv-loop2 μ-loop2 Inv-loop3 μ-loop3
-judging c = c .before .before .before .before .before .before .before .before .before .before .before .before .before .before .before .before
+judging c = reading c .before
 
 abbrev looking : Second → First
-looking c = c .before .before .before .before .before .before .before .before .before .before .before .before .before .before .before .before .before .before
+looking c = judging c .before .before
 
 -- the tick's dt
 abbrev dtOf : Second → Float
@@ -162,7 +162,7 @@ low c = omega (arith, c .before .before .before .before .before .before .before 
 
 loop2-holds : tie.Need-loop2-holds Inv-loop μ-loop Inv-loop2 μ-loop2 Inv-loop3 μ-loop3
 unfolding runTo
-loop2-holds c = (search needs, record { left = refl; wrote = wrote-none }, omega (arith, cars-are (c .before .before .before .before .before .before .before .before .before .before .before .before .before .before .before .before .before)))
+loop2-holds c = (search needs, record { left = refl; wrote = wrote-none }, search needs)
 
 loop2-again : tie.Need-loop2-again Inv-loop μ-loop Inv-loop2 μ-loop2 Inv-loop3 μ-loop3
 unfolding plus
