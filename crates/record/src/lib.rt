@@ -111,8 +111,8 @@ pub fn record(world: World, words: &[u32], log: &mut [u32]) -> Recorded
     }
     // 3. the tick's word; movement.rs, run: car by car, each on positions already updated in this tick. A car at rest is left alone.
     let dt = tick.dt;
-    let n = w.stop_count;
-    let sort = sorted_stops(&w.stops, n);
+    let stop_count = w.stop_count;
+    let sort = sorted_stops(&w.stops, stop_count);
     let mut to = emit(log, 0, Event::TickMade { tick: w.ticks });
     i = 0;
     while i < cars {
@@ -130,22 +130,34 @@ pub fn record(world: World, words: &[u32], log: &mut [u32]) -> Recorded
                 let all = w.cars;
                 leader = leader_of(kind, all, w.car_count, i, car);
             }
-            let r = landing(trip, kind, leader, car, &w.stops, dt);
-            let me = i as u8;
+            let result = landing(trip, kind, leader, car, &w.stops, dt);
+            let number = i as u8;
             let mut lamps = lamps_of(car);
-            if asks_work(trip, kind, r.arrived) {
+            if asks_work(trip, kind, result.arrived) {
                 let row = w.cars[i];
                 let riders = w.riders;
-                lamps = work_of(trip, riders, w.rider_count, row, &w.stops, me);
+                lamps = work_of(trip, riders, w.rider_count, row, &w.stops, number);
             }
-            let told = tell(log, to, me, trip, kind, car, r, lamps, &sort, &w.stops, n);
-            w.cars[i].motion.position = r.position;
-            w.cars[i].motion.velocity = r.velocity;
+            let told = tell(
+                log,
+                to,
+                number,
+                trip,
+                kind,
+                car,
+                result,
+                lamps,
+                &sort,
+                &w.stops,
+                stop_count,
+            );
+            w.cars[i].motion.position = result.position;
+            w.cars[i].motion.velocity = result.velocity;
             w.cars[i].move_count = wrapping_add_u64(car.move_count, told.count);
             w.total_moves = wrapping_add_u64(w.total_moves, told.count);
-            w.reposition_distance = distance_by(trip, kind, w.reposition_distance, car, r);
+            w.reposition_distance = distance_by(trip, kind, w.reposition_distance, car, result);
             to = told.at;
-            if r.arrived {
+            if result.arrived {
                 let row = w.cars[i];
                 let arrived = come(row, trip, lamps, w.ticks);
                 w.cars[i] = arrived;
