@@ -1,4 +1,4 @@
--- Parts of the code: what every order to a car looks up and comes to.
+-- Parts of the code, cited within the library alone, on which the promise of `record` does not rest: what the six orders to a car have in common.
 use mathlib.Core.Bool.{Bool, true, not, _||_, cond}
 use mathlib.Core.List.{List, [], _∷_}
 use Prim.Native.Nat.{ℕ}

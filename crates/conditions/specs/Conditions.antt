@@ -48,7 +48,7 @@ pub record Kept (w : World) (words lent : List ℕ) (o : Outcome) : Type 0 where
 unfoldable pub FirstCondition : Type 0
 FirstCondition = (w : World) (words log : List ℕ) → Kept w words log (recordOf w words log)
 
--- ---- "A refusal is given on its condition and on no other": what each condition is, `tape`, `loads` and `orders` say; here is their order, and that nothing else refuses
+-- ---- "A refusal is given on its condition and on no other": what each condition is, the tape's crates, `loads`, `changes`, `orders`, `modes`, `requests` and `record_kinds` say; here is their order, and that nothing else refuses
 
 -- the conditions that the state brings, in the order of their numbers
 abbrev pub stateChecks : World → List ℕ → Record → List Check

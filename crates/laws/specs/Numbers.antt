@@ -2,7 +2,7 @@
 use mathlib.Core.Bool.{Bool, cond}
 use Prim.Native.Nat.{ℕ, _+_, _%_, _^_}
 
--- `+` of u64, wrapping
+-- `+` of u64. Where it is used nothing comes near its end: `NothingWraps` of `tick` for counters, `Counting` of `report` for a log's counts.
 unfoldable pub plus : ℕ → ℕ → ℕ
 plus a b = (a + b) % 2 ^ 64
 

@@ -1,4 +1,4 @@
--- Parts of the code, which nobody signs: what a car tells and its moves (proofs/Moving.antt has that they are the turn's), a span's ranges (proofs/Emitting.antt).
+-- Parts of the code, cited within the library alone, on which the promise of `record` does not rest: what a car tells and its moves (proofs/Moving.antt has that they are the turn's), a span's ranges (proofs/Emitting.antt).
 use mathlib.Core.Path.{_≡_}
 use mathlib.Core.Bool.{false, true, cond}
 use mathlib.Core.List.{List}

@@ -7,7 +7,6 @@ use Rattle.laws.proofs.Bools.{yes}
 use Rattle.sound.specs.Sound.{broken, countsBroken}
 use Rattle.sound.proofs.Unbroken.{Counts, counts-fit}
 use Rattle.world.specs.declared.World.{World}
-use Rattle.tick.specs.Room.{roomOf}
 use Rattle.record_kinds.specs.PaperRoom.{PaperRoom}
 
 broken-counts : (w : World) → countsBroken w ≡ true → broken w ≡ true
@@ -23,7 +22,7 @@ pub counted : (w : World) → broken w ≡ false → Counts w
 counted w h = counts-fit w (whole-counts w (countsBroken w) refl h)
 
 pub paper-room : PaperRoom
-unfolding PaperRoom roomOf
+unfolding PaperRoom
 paper-room w h =
     let n : Counts w = counted w h in
     let c : min (w .«car_count») 16 ≡ w .«car_count» = omega (arith, n .cars) in

@@ -4,8 +4,8 @@ use mathlib.Core.Bool.{false}
 use Prim.Native.Nat.{_+_, _*_}
 use Rattle.sound.specs.Sound.{broken}
 use Rattle.world.specs.declared.World.{World}
-use Rattle.tick.specs.Room.{roomOf}
+use Rattle.tick.specs.Room.{roomFor}
 
 -- "cars × (stops + 14) + 1"
 unfoldable pub PaperRoom : Type 0
-PaperRoom = (w : World) → broken w ≡ false → roomOf w ≡ w .«car_count» * (w .«stop_count» + 14) + 1
+PaperRoom = (w : World) → broken w ≡ false → roomFor (w .«car_count») (w .«stop_count») ≡ w .«car_count» * (w .«stop_count» + 14) + 1

@@ -55,7 +55,7 @@ said w c (call ∷ calls) left =
     let o = outcome w call in
     told (o .answer) (o .log) ++ goesOn (o .answer) (said (o .world) (countsAfter (o .answer) (o .log) c) calls left)
 
--- what is printed of a tape's bytes from a world on
+-- what is printed of a tape's bytes from a world on; `more` bounds the calls, as in `made`
 unfoldable pub printed : ℕ → World → Counts → List ℕ → List ℕ → List ℕ
 printed more w c log bytes = said w c (made more w log bytes .calls) (made more w log bytes .left)
 
