@@ -100,4 +100,4 @@ module _ (w : World) (log : List ℕ) where
   pub is-whole : {r : Recorded} {left : List ℕ} (words : List ℕ) {d : Decoded} → broken w ≡ false → d ≡ decoded words → Gives r left (readBy w log (d .serves) (d .read))
       → Gives r left (recordOf w words log)
   unfolding recordOf
-  is-whole words e d h = rw (e, ← d) h
+  is-whole words e d h = rw e (rw d at h)
