@@ -8,7 +8,7 @@ use native.Mathlib.Omega.{arith}
 use lib.Dec.{eqb}
 use borrow.Author.Tests.{eqb-true, eq-eqb}
 use Rattle.world.specs.declared.World.{World}
-use Rattle.log_words.specs.ReadBack.{isKind, carOf}
+use Rattle.read_back.specs.ReadBack.{isKind, carOf}
 use Rattle.layout.specs.Layout.{kindOf}
 use Rattle.tick.specs.Counters.{isMove, movesIn, sumTo}
 use Rattle.record.specs.Calls.{Empty, Call, next, worldAfter}

@@ -11,7 +11,8 @@ use lib.ListN.{length, getD}
 use borrow.Author.Tests.{eqb-true, leb-false}
 use Rattle.laws.proofs.Bools.{yes}
 use Rattle.world.specs.World.{carAt, lineAt, riderAt}
-use Rattle.sound.specs.Sound.{anyTo, carBroken, lineBroken, riderBroken, countsBroken, broken, unloaded, phaseUnloaded, stopUnloaded, callsUnloaded}
+use Rattle.sound_rows.specs.Rows.{anyTo, carBroken, lineBroken, riderBroken, unloaded, phaseUnloaded, stopUnloaded}
+use Rattle.sound.specs.Sound.{countsBroken, broken, callsUnloaded}
 use Rattle.world.specs.declared.World.{World}
 use Rattle.world.specs.declared.Car.{Car}
 use Rattle.world.specs.declared.ServiceMode.{ServiceMode}

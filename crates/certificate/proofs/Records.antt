@@ -16,7 +16,8 @@ use Rattle.door.specs.declared.DoorState.{DoorState}
 use Rattle.door.specs.declared.DoorState.the-variants.{Closed}
 use Rattle.world.specs.World.{carAt, noCar, newCar}
 use Rattle.world.specs.With.{withCar, withCars}
-use Rattle.sound.specs.Sound.{broken, unloaded}
+use Rattle.sound_rows.specs.Rows.{unloaded}
+use Rattle.sound.specs.Sound.{broken}
 use Rattle.world.specs.Refusal.{Check, unless}
 use Rattle.world.specs.declared.World.{World}
 use Rattle.world.specs.declared.Car.{Car}

@@ -15,7 +15,7 @@ use Rattle.world.specs.declared.StopOption.the-variants.{NoStop, Stop}
 use Rattle.log_words.specs.Words.{wordOf}
 use Rattle.laws.specs.Numbers.{bit}
 use Rattle.log_words.specs.declared.Event.the-variants.{TickMade}
-use Rattle.log_words.proofs.Reading.{kind-tick}
+use Rattle.read_back.proofs.Reading.{kind-tick}
 use Rattle.steps.specs.Steps.{runCars}
 use Rattle.steps.specs.declared.JustOpened.{JustOpened}
 use Rattle.movement_system.specs.Movement.{moveOf, moved}

@@ -4,7 +4,7 @@ use mathlib.Core.List.{List, [], _∷_}
 use Prim.Native.Nat.{ℕ}
 use lib.Dec.{leb, eqb}
 use Rattle.world.specs.With.{withPlan}
-use Rattle.sound.specs.Sound.{unloaded}
+use Rattle.sound_rows.specs.Rows.{unloaded}
 use Rattle.world.specs.Refusal.{Check, check, unless}
 use Rattle.world.specs.declared.World.{World}
 use Rattle.world.specs.declared.refusal.Refusal.{Refusal}

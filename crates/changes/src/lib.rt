@@ -3,7 +3,7 @@ ghost use mathlib.Core.Path.{_≡_};
 ghost use Rattle.changes.specs.Changes as Changes;
 ghost use Rattle.changes.specs.Parts as Parts;
 ghost use Rattle.changes.specs.Parts.{rowOf};
-use sound::unloaded;
+use sound_rows::unloaded;
 use world::Car;
 use world::World;
 use world::refusal::Refusal;

@@ -7,10 +7,10 @@ use native.Mathlib.Omega.{arith}
 use lib.Dec.{T}
 use lib.Pow.{pow-pos}
 use lib.IntN.{ℤ, pos, negsuc}
-use lib.Ieee.{Float, nan, inf, fin, binary64, up, down, lt, eq, ne, neg, div, isNan, fits, ofBits}
+use lib.Ieee.{Float, nan, inf, fin, binary64, up, down, lt, le, eq, ne, neg, div, isNan, fits, ofBits}
 use lib.Ieee.Fits.{up-pos}
-use borrow.Author.Tests.{ltb-true, ltb-false, eqb-true, eq-eqb}
-use Rattle.laws.proofs.Bools.{no, yes}
+use borrow.Author.Tests.{ltb-true, ltb-false, lt-ltb, eqb-true, eq-eqb}
+use Rattle.laws.proofs.Bools.{no, yes, and-left}
 use Rattle.float.specs.Float as F64
 
 -- a product with a power of two is 0 only where the other factor is
@@ -25,6 +25,22 @@ lt-zero-pos m e h = absurd (omega (arith, ltb-true (m * up e * 1) (0 * down e) h
 pub lt-zero-neg : (m : ℕ) (e : ℤ) → lt (fin true m e) F64.zero ≡ false → m ≡ 0
 unfolding lt ofBits
 lt-zero-neg m e h = nil m e (omega (arith, ltb-false 0 (m * up e * 1 + 0 * down e) h, zero-mul (down e)))
+
+pub null-le-zero : (s : Bool) (e : ℤ) → le (fin s 0 e) F64.zero ≡ true
+unfolding le ofBits
+null-le-zero true e = rw (zero-mul (up e), zero-mul (down e))
+null-le-zero false e = rw (zero-mul (up e), zero-mul (down e))
+
+pub minus-le-zero : (m : ℕ) (e : ℤ) → le (fin true m e) F64.zero ≡ true
+unfolding le ofBits
+minus-le-zero zero e = rw (zero-mul (up e), zero-mul (down e))
+minus-le-zero (suc m) e =
+    let h : 0 < suc m * up e = mul-pos (omega arith) (up-pos e) in rw (lt-ltb 0 (suc m * up e * 1 + 0 * down e) (omega (arith, mul-one (suc m * up e))))
+
+-- at or above 0 with a sign: it is a zero
+pub placed-minus : (m : ℕ) (e : ℤ) → le F64.zero (fin true m e) ≡ true → m ≡ 0
+unfolding le lt ofBits
+placed-minus m e p = nil m e (omega (arith, eqb-true (0 * down e) (m * up e * 1) (and-left _ _ p), zero-mul (down e)))
 
 -- a zero is written in the one way
 pub zero-exponent : (s : Bool) (e : ℤ) → fits binary64 (fin s 0 e) ≡ true → e ≡ pos 0

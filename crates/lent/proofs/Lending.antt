@@ -5,7 +5,8 @@ use Prim.Native.Nat.{ℕ}
 use lib.Ieee.{ofBits, le}
 use Rattle.float.specs.Float.{isFinite}
 use Rattle.world.specs.World.{emptyWorld}
-use Rattle.sound.specs.Sound.{anyTo, countsBroken, broken}
+use Rattle.sound_rows.specs.Rows.{anyTo}
+use Rattle.sound.specs.Sound.{countsBroken, broken}
 use Rattle.world.specs.declared.World.{World}
 use Rattle.log_words.specs.Words.{tickWord}
 use Rattle.layout.specs.Layout.{kindOf, nOf, sOf, vOf}

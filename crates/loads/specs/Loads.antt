@@ -7,7 +7,7 @@ use lib.ListN.{set}
 use lib.Ieee.{Float}
 use Rattle.world.specs.World.{newCar}
 use Rattle.world.specs.With.{withPlan, withCars, withPeople}
-use Rattle.sound.specs.Sound.{unloaded, lineBroken, riderBroken}
+use Rattle.sound_rows.specs.Rows.{unloaded, lineBroken, riderBroken}
 use Rattle.world.specs.Refusal.{Check, check, unless}
 use Rattle.world.specs.declared.World.{World}
 use Rattle.world.specs.declared.Line.{Line}

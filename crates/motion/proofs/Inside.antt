@@ -12,12 +12,10 @@ use lib.Ieee.Scale.{round-same}
 use borrow.Author.Tests.{ltb-true, le-ltb, ne-eqb}
 use Rattle.float.specs.Float as F64
 use Rattle.float.specs.Facts.{IsF64}
-use Rattle.float.proofs.Cases.{zero-exponent}
+use Rattle.float.proofs.Cases.{zero-exponent, null-le-zero, minus-le-zero, placed-minus}
 use Rattle.laws.proofs.Bools.{no, holds}
 use Rattle.float.proofs.Rounding.{round-own}
-use Rattle.motion.specs.Cyclic.{degenerate, wrapPosition}
-use Rattle.motion.specs.Facts.{InCircle}
-use Rattle.motion.proofs.Circle.{placed-minus, minus-le-zero, null-le-zero}
+use Rattle.motion.specs.Cyclic.{InCircle, degenerate, wrapPosition}
 
 -- an f64 is what its own size rounds to, a zero too
 round-self : (s : Bool) (m : ℕ) (e : ℤ) → IsF64 (fin s m e) → round binary64 s (m * up e) (down e) ≡ fin s m e

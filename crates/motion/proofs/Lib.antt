@@ -1,3 +1,1 @@
-pub mod Circle
-pub mod Headway
 pub mod Inside

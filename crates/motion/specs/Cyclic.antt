@@ -1,11 +1,16 @@
 -- components/cyclic.rs, over the logic's IEEE 754. Each operation rounds once.
-use mathlib.Core.Bool.{Bool, not, _||_, cond}
+use mathlib.Core.Path.{_≡_}
+use mathlib.Core.Bool.{Bool, true, not, _||_, cond}
 use lib.Ieee.{Float, binary64, add, sub, lt, le}
 use Rattle.float.specs.Float.{zero, isFinite, min, remEuclid}
 
 -- no circle: the circumference is not finite, or not above 0
 abbrev pub degenerate : Float → Bool
 degenerate circumference = not (isFinite circumference) || le circumference zero
+
+-- x lies in [0, c)
+abbrev pub InCircle : Float → Float → Type 0
+InCircle x c = (le zero x ≡ true) × (lt x c ≡ true)
 
 -- cyclic.rs, wrap_position
 unfoldable pub wrapPosition : Float → Float → Float

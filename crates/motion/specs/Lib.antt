@@ -1,3 +1,2 @@
 pub mod Cyclic
 pub mod Movement
-pub mod Facts

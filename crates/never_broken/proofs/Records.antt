@@ -10,10 +10,11 @@ use lib.Pow.{pow-mono}
 use lib.Ieee.{Float}
 use borrow.Author.Tests.{eqb-true, ltb-true, leb-false, not-false, lt-leb}
 use Rattle.door.specs.declared.DoorCommand.{DoorCommand}
-use Rattle.sound.specs.Sound.{anyTo, unloaded, phaseUnloaded, lineBroken, riderBroken, broken}
+use Rattle.sound_rows.specs.Rows.{anyTo, unloaded, phaseUnloaded, lineBroken, riderBroken}
+use Rattle.sound.specs.Sound.{broken}
 use Rattle.world.specs.World.{noLine, noRider, lineAt, carAt, riderAt, newCar}
 use Rattle.world.specs.With.{withCar}
-use Rattle.world.specs.Calls.{pressed}
+use Rattle.call_sets.specs.Calls.{pressed}
 use Rattle.world.specs.Refusal.{Check, unless, refusalNumber}
 use Rattle.world.specs.declared.World.{World}
 use Rattle.world.specs.declared.Car.{Car}

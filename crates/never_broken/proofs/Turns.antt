@@ -8,7 +8,7 @@ use lib.Dec.{ltb, eqb}
 use lib.ListN.{getD}
 use lib.Ieee.{Float}
 use Rattle.door.specs.declared.DoorState.{DoorState}
-use Rattle.sound.specs.Sound.{anyTo, unloaded, stopUnloaded, phaseUnloaded, lineBroken}
+use Rattle.sound_rows.specs.Rows.{anyTo, unloaded, stopUnloaded, phaseUnloaded, lineBroken}
 use Rattle.world.specs.World.{lineAt, carAt}
 use Rattle.world.specs.declared.World.{World}
 use Rattle.world.specs.declared.Car.{Car}

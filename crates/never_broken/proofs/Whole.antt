@@ -5,7 +5,8 @@ use Prim.Native.Nat.{ℕ, _^_, _<_}
 use native.Mathlib.Omega.{arith}
 use lib.ListN.{getD}
 use borrow.Author.Tests.{le-ltb, lt-leb}
-use Rattle.sound.specs.Sound.{unloaded, lineBroken, carBroken, riderBroken, countsBroken, broken}
+use Rattle.sound_rows.specs.Rows.{unloaded, lineBroken, carBroken, riderBroken}
+use Rattle.sound.specs.Sound.{countsBroken, broken}
 use Rattle.world.specs.World.{lineAt, carAt, riderAt}
 use Rattle.world.specs.declared.World.{World}
 use Rattle.world.specs.declared.Car.{Car}

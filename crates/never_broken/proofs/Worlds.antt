@@ -6,7 +6,7 @@ use Prim.Native.Nat.{ℕ, zero, suc, _*_, _^_, _<_, _≤_, min}
 use native.Mathlib.Omega.{arith}
 use lib.ListN.{set}
 use lib.Ieee.{Float}
-use Rattle.sound.specs.Sound.{lineBroken, riderBroken}
+use Rattle.sound_rows.specs.Rows.{lineBroken, riderBroken}
 use Rattle.world.specs.World.{noCar, lineAt, carAt, riderAt}
 use Rattle.world.specs.declared.World.{World}
 use Rattle.world.specs.declared.Car.{Car}

@@ -4,7 +4,7 @@ use mathlib.Core.List.{List, [], _∷_}
 use Prim.Native.Nat.{ℕ}
 use Rattle.world.specs.World.{carAt}
 use Rattle.world.specs.With.{withCar, withOrders}
-use Rattle.sound.specs.Sound.{unloaded}
+use Rattle.sound_rows.specs.Rows.{unloaded}
 use Rattle.world.specs.declared.World.{World}
 use Rattle.world.specs.declared.Car.{Car}
 use Rattle.world.specs.declared.ElevatorPhase.{ElevatorPhase}

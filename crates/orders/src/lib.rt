@@ -5,7 +5,7 @@ use changes::Changed;
 use changes::Hindered;
 use changes::ordered;
 use changes::row_of;
-use sound::unloaded;
+use sound_rows::unloaded;
 use world::Car;
 use world::ElevatorPhase;
 use world::StopOption;

@@ -7,8 +7,8 @@ use lib.ListN.{set}
 use Rattle.door.specs.declared.DoorCommand.{DoorCommand}
 use Rattle.world.specs.World.{carAt}
 use Rattle.world.specs.With.{withCar, withPeople, withOrders}
-use Rattle.sound.specs.Sound.{unloaded}
-use Rattle.world.specs.Calls.{pressed}
+use Rattle.sound_rows.specs.Rows.{unloaded}
+use Rattle.call_sets.specs.Calls.{pressed}
 use Rattle.world.specs.declared.World.{World}
 use Rattle.world.specs.declared.Car.{Car}
 use Rattle.world.specs.declared.refusal.Refusal.the-variants.{NotNow, NotLoaded, QueueFull}

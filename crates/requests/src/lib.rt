@@ -1,6 +1,7 @@
 // Kinds 8, 9 and A: door commands, hall calls and destinations, each where it waits.
 ghost use mathlib.Core.Path.{_≡_};
 ghost use Rattle.requests.specs.Requests as Requests;
+use call_sets::pressed;
 use changes::Changed;
 use changes::Hindered;
 use changes::accepted;
@@ -8,10 +9,9 @@ use changes::ordered;
 use changes::refused;
 use changes::row_of;
 use door::DoorCommand;
-use sound::unloaded;
+use sound_rows::unloaded;
 use world::QueuedCommand;
 use world::World;
-use world::calls::pressed;
 use world::refusal::Refusal;
 
 // Kind 8.

@@ -6,7 +6,8 @@ use native.Mathlib.Omega.{arith}
 use lib.Dec.{leb, ltb}
 use borrow.Author.Tests.{ltb-false, leb-false}
 use Rattle.laws.proofs.Bools.{yes}
-use Rattle.sound.specs.Sound.{anyTo, lineBroken, riderBroken, callsUnloaded, countsBroken, broken}
+use Rattle.sound_rows.specs.Rows.{anyTo, lineBroken, riderBroken}
+use Rattle.sound.specs.Sound.{callsUnloaded, countsBroken, broken}
 use Rattle.world.specs.World.{lineAt, riderAt}
 use Rattle.sound.specs.Parts.{restBroken, carsBroken}
 use Rattle.world.specs.declared.World.{World}

@@ -3,7 +3,8 @@ use mathlib.Core.Bool.{Bool, _||_}
 use Prim.Native.Nat.{ℕ}
 use Rattle.world.specs.World.{lineAt, carAt, riderAt}
 use Rattle.world.specs.declared.World.{World}
-use Rattle.sound.specs.Sound.{anyTo, lineBroken, carBroken, riderBroken, callsUnloaded, countsBroken}
+use Rattle.sound_rows.specs.Rows.{anyTo, lineBroken, carBroken, riderBroken}
+use Rattle.sound.specs.Sound.{callsUnloaded, countsBroken}
 
 -- all but the cars
 unfoldable pub restBroken : World → Bool

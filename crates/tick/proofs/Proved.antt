@@ -11,7 +11,7 @@ use Rattle.world.specs.declared.World.{World}
 use Rattle.world.specs.declared.StopOption.{StopOption}
 use Rattle.world.specs.declared.StopOption.the-variants.{NoStop, Stop}
 use Rattle.laws.specs.Numbers.{bit}
-use Rattle.log_words.proofs.Reading.{kind-tick}
+use Rattle.read_back.proofs.Reading.{kind-tick}
 use Rattle.steps.specs.Steps.{runTo, runCars}
 use Rattle.steps.proofs.Cars.{kept}
 use Rattle.steps.specs.declared.JustOpened.{JustOpened}

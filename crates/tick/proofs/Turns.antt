@@ -17,7 +17,7 @@ use Rattle.world.specs.declared.StopOption.the-variants.{NoStop, Stop}
 use Rattle.log_words.specs.Words.{word, wordOf, codeOf, ticksOf}
 use Rattle.laws.specs.Numbers.{bit}
 use Rattle.log_words.specs.declared.Event.the-variants.{ElevatorIdle}
-use Rattle.log_words.proofs.Reading.{kind-word}
+use Rattle.read_back.proofs.Reading.{kind-word}
 use Rattle.steps.specs.Steps.{lineOf, lampsOf, bothLit, unlit, updateIndicators, Step, notOpened}
 use Rattle.laws.specs.Numbers.{plus}
 use Rattle.world.specs.declared.Lamps.{Lamps}

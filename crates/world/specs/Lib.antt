@@ -1,4 +1,3 @@
 pub mod World
 pub mod With
 pub mod Refusal
-pub mod Calls

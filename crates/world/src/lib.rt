@@ -1,6 +1,5 @@
 // The world of a traffic study: stops, lines, cars and riders in numbered tables, the hall calls, and the totals.
 // It goes in by value and comes back. What lies past a table's count means nothing.
-pub mod calls; // sets of hall calls
 pub mod empty; // a new car, the empty world
 pub mod refusal; // the refusals and their numbers
 pub mod with; // a car with some of its fields changed

@@ -9,7 +9,8 @@ use native.Mathlib.Omega.{arith}
 use lib.Ieee.{Float}
 use borrow.Author.Needs.{needs}
 use Rattle.log.proofs.Writing.{wrote-none, also, wrote-length}
-use Rattle.sound.specs.Sound.{broken, anyTo}
+use Rattle.sound_rows.specs.Rows.{anyTo}
+use Rattle.sound.specs.Sound.{broken}
 use Rattle.sound.specs.Parts.{carsBroken}
 use Rattle.sound.proofs.Unbroken.{in-places}
 use Rattle.world.specs.World.{carAt}

@@ -5,7 +5,7 @@ use native.Mathlib.Omega.{arith}
 use lib.Pow.{pow-mono}
 use borrow.Author.Needs.{needs}
 use borrow.Author.Tests.{lt-leb}
-use Rattle.world.proofs.Bits.{bit-of}
+use Rattle.call_sets.proofs.Bits.{bit-of}
 use Rattle.sound.proofs.calls_unloaded.Statement.{statement}
 use Rattle.sound.proofs.calls_unloaded.Tie as tie
 

@@ -1,7 +1,7 @@
 -- `sound::rest_broken` meets its contract. Assumes nothing.
 use mathlib.Core.Path.{sym, _∙_}
 use mathlib.Core.Bool.{or-false}
-use Rattle.sound.specs.Sound.{anyTo}
+use Rattle.sound_rows.specs.Rows.{anyTo}
 use Rattle.sound.specs.Parts.{restBroken}
 use Rattle.sound.proofs.Unbroken.{Counts, counts-fit, put-off}
 use Rattle.sound.proofs.rest_broken.Statement.{statement}

@@ -5,7 +5,7 @@ use Rattle.float.specs.Float.{abs, signum, isFinite, max, remEuclid}
 use Rattle.motion.specs.Cyclic.{wrapPosition, forwardDistance}
 use Rattle.motion.specs.Movement.{tickMovement, tickMovementCyclic, headwayClampTarget}
 use Rattle.velocity.specs.Velocity.{decelerated, accelerated, newVelocity}
-use Rattle.world.specs.Calls.{called}
+use Rattle.call_sets.specs.Calls.{called}
 use Rattle.world.specs.World.{emptyWorld}
 use Rattle.next_stop.specs.NextStop.{loopNextStopForCar}
 use Rattle.leader.specs.Leader.{leaderTo, loopLeaderPos}
