@@ -78,7 +78,7 @@ static void show_loop(void)
     const Limits trailer_limits = {.max_speed = 10.0, .acceleration = 2.5, .deceleration = 2.5};
     const double length = 100.0;
     const double headway = 10.0;
-    const double leader_target = 24.0;
+    const double leader_target = wrap_position(124.0, length); /* past the seam */
     const double trailer_target = 20.0;
     const double dt = 1.0;
     MovementResult leader = {.position = 80.0, .velocity = 0.0, .arrived = false};
