@@ -108,6 +108,8 @@ examples =
     ∷ example (place (forwardDistance tiny zero ten)) (place ten)
     -- headway (trailer 0, leader 4, target 9, headway 3, circle 10) = 1
     ∷ example (place (headwayClampTarget zero four nine three ten)) (place one)
+    -- leader 2 gives 0
+    ∷ example (place (headwayClampTarget zero two nine three ten)) (place zero)
     -- next from 4 among 0, 4, 7 on 10 is 7
     ∷ example (nextFromFour (0 ∷ 1 ∷ 2 ∷ [])) (next (Stop 2))
     -- among 4 only, 4

@@ -13,7 +13,7 @@ use Rattle.marked.proofs.marked.Tie as tie
 
 examples-hold : Marked
 unfolding Marked Hold tickMovement newVelocity decelerated accelerated wrapPosition forwardDistance headwayClampTarget transitionAt after loopNextStopForward nearestTo aheadOf abs signum isFinite max remEuclid ofBits add sub mul div rem neg lt le eq isNan
-examples-hold = (refl, (refl, (refl, (refl, (refl, (refl, (refl, (refl, (refl, (refl, (refl, (refl, (refl, tt)))))))))))))
+examples-hold = (refl, (refl, (refl, (refl, (refl, (refl, (refl, (refl, (refl, (refl, (refl, (refl, (refl, (refl, tt))))))))))))))
 
 pub marked-spec : {M : Type 1} → statement M
 marked-spec = tie.close (tie.spec (λ c. (refl, examples-hold)))
