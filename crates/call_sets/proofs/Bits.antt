@@ -17,22 +17,26 @@ bit-held calls s h =
     let least : 1 * 2 ^ s ≤ q * 2 ^ s = mul-le-mul-right (2 ^ s) (omega arith) in
     omega (arith, div-add-mod' calls (2 ^ s), one-mul (2 ^ s))
 
+-- a higher power is an even number of a lower one
+pub pow-above : (n s : ℕ) → s < n → 2 ^ n ≡ 2 ^ (n - s - 1) * 2 * 2 ^ s
+pow-above n s l =
+    let k = n - s - 1 in
+    let sum : n ≡ suc k + s = omega arith in
+    ap (λ (x : ℕ). 2 ^ x) sum ∙ pow-add 2 (suc k) s ∙ ap (λ (x : ℕ). x * 2 ^ s) (pow-suc 2 k)
+
 -- an unset bit below n leaves room for it below 2 ^ n
 pub bit-room : (n calls s : ℕ) → s < n → calls < 2 ^ n → called calls s ≡ false → calls + 2 ^ s < 2 ^ n
 unfolding called
 bit-room n calls s l c h =
     let q = calls / 2 ^ s in
     let k = n - s - 1 in
-    let whole : 2 ^ n ≡ 2 ^ k * 2 * 2 ^ s = ap (λ (x : ℕ). 2 ^ x) (the-sum n s l) ∙ pow-add 2 (suc k) s ∙ ap (λ (x : ℕ). x * 2 ^ s) (pow-suc 2 k) in
+    let whole : 2 ^ n ≡ 2 ^ k * 2 * 2 ^ s = pow-above n s l in
     let under : q < 2 ^ k * 2 = quotient calls (2 ^ k * 2) (2 ^ s) (pow-pos s) (omega arith) in
     let even : (q % 2 ≡ 1 → ⊥) = eqb-false (q % 2) 1 h in
     let two : q + 2 ≤ 2 ^ k * 2 = halves q (2 ^ k) under even in
     let top : (q + 2) * 2 ^ s ≤ 2 ^ k * 2 * 2 ^ s = mul-le-mul-right (2 ^ s) two in
     omega (arith, div-add-mod' calls (2 ^ s), mod-lt calls (pow-pos s), add-mul q 2 (2 ^ s))
   where
-    the-sum : (n s : ℕ) → s < n → n ≡ suc (n - s - 1) + s
-    the-sum n s l = omega arith
-
     quotient : (x y z : ℕ) → 0 < z → x < y * z → x / z < y
     quotient x y z p h = div-lt-iff-lt-mul p .1 h
 
