@@ -12,7 +12,7 @@ use lib.Ieee.Fits.{up-pos, down-pos}
 use lib.Ieee.Order.{round-mono}
 use borrow.Author.Tests.{ltb-true, ltb-false, eqb-true, eqb-false, lt-ltb, le-ltb}
 use Rattle.float.specs.Float as F64
-use Rattle.motion.specs.Cyclic.{degenerate, wrapPosition, forwardDistance}
+use Rattle.motion.specs.Cyclic.{InCircle, degenerate, wrapPosition, forwardDistance}
 use Rattle.circle_facts.specs.Facts.{IsCircle, WrapInCircle, ForwardInCircle, ForwardIsNumber}
 use Rattle.float.proofs.Cases.{lt-zero-pos, lt-zero-neg, null-le-zero, minus-le-zero, placed-minus}
 use Rattle.laws.proofs.Bools.{no, yes, holds, and-left}
@@ -114,15 +114,20 @@ wrap-at s m e n d t g =
     let r = cond (lt r0 F64.zero) (add binary64 r0 c) r0 in
     rw g (turn r n d (euclid r0 (suc n) d (rem-within s m e n d t) (lt r0 F64.zero) refl) (le c r) refl)
 
+-- a circle is a float above 0
+pub on-circle : (P : Float → Type 0) → ((n : ℕ) (d : ℤ) → IsCircle (fin false (suc n) d) → P (fin false (suc n) d)) → (c : Float) → IsCircle c → P c
+unfolding F64.isFinite
+on-circle P at nan k = yes (k .1)
+on-circle P at (inf u) k = yes (k .1)
+on-circle P at (fin true n d) k = yes (sym (minus-le-zero n d) ∙ k .1)
+on-circle P at (fin false zero d) k = yes (sym (null-le-zero false d) ∙ k .1)
+on-circle P at (fin false (suc n) d) k = at n d k
+
 pub wrap-in-circle : WrapInCircle
 unfolding WrapInCircle F64.isFinite
 wrap-in-circle nan c k p = no p
 wrap-in-circle (inf s) c k p = no p
-wrap-in-circle (fin s m e) nan k p = yes (k .1)
-wrap-in-circle (fin s m e) (inf u) k p = yes (k .1)
-wrap-in-circle (fin s m e) (fin true n d) k p = yes (sym (minus-le-zero n d) ∙ k .1)
-wrap-in-circle (fin s m e) (fin false zero d) k p = yes (sym (null-le-zero false d) ∙ k .1)
-wrap-in-circle (fin s m e) (fin false (suc n) d) k p = wrap-at s m e n d (holds (k .0)) (k .1)
+wrap-in-circle (fin s m e) c k p = on-circle (λ c. InCircle (wrapPosition (fin s m e) c) c) (λ n d k. wrap-at s m e n d (holds (k .0)) (k .1)) c k
 
 -- ---- a forward distance
 
@@ -227,7 +232,7 @@ or-parts false true false h = yes h
 or-parts false false c h = yes h
 
 -- d, and a turn more where d is below 0
-abbrev ahead : Float → Float → Float
+abbrev pub ahead : Float → Float → Float
 ahead d c = cond (lt d F64.zero) (add binary64 d c) d
 
 forward-at : (from to : Float) (n : ℕ) (d : ℤ) → IsCircle (fin false (suc n) d)
@@ -258,12 +263,9 @@ forward-at from to n d k = go (degenerate c || not (F64.isFinite from) || not (F
         full (diff-within (wrapPosition to c) (wrapPosition from c) n d (holds (k .0)) (at to (g .2)) (at from (g .1)))
 
 pub forward-in-circle : ForwardInCircle
-unfolding ForwardInCircle F64.isFinite
-forward-in-circle from to nan k = yes (k .1)
-forward-in-circle from to (inf u) k = yes (k .1)
-forward-in-circle from to (fin true n d) k = yes (sym (minus-le-zero n d) ∙ k .1)
-forward-in-circle from to (fin false zero d) k = yes (sym (null-le-zero false d) ∙ k .1)
-forward-in-circle from to (fin false (suc n) d) k = forward-at from to n d k
+unfolding ForwardInCircle
+forward-in-circle from to =
+    on-circle (λ c. (le F64.zero (forwardDistance from to c) ≡ true) × (le (forwardDistance from to c) c ≡ true)) (forward-at from to)
 
 -- ---- no NaN
 

@@ -17,12 +17,12 @@ use Rattle.motion.specs.Movement.{headwayClampTarget}
 use Rattle.circle_facts.specs.Facts.{IsCircle, WrapInCircle, ForwardInCircle, HeadwayInCircle}
 use Rattle.laws.proofs.Bools.{no, yes, holds}
 use Rattle.float.proofs.Rounding.{Plus, plus-round, Within, le-nat}
-use Rattle.float.proofs.Cases.{null-le-zero, minus-le-zero, placed-minus}
+use Rattle.float.proofs.Cases.{placed-minus}
 use Rattle.float.proofs.Sides.{over}
-use Rattle.circle_facts.proofs.Circle.{le-zero-plus, lt-nat, wrap-in-circle, Placed, placed, over-one, signed-within, forward-in-circle}
+use Rattle.circle_facts.proofs.Circle.{le-zero-plus, on-circle, lt-nat, wrap-in-circle, Placed, placed, over-one, signed-within, forward-in-circle}
 
 -- max of anything and 0 is at or above 0
-max-zero : (x : Float) → le F64.zero (F64.max x F64.zero) ≡ true
+pub max-zero : (x : Float) → le F64.zero (F64.max x F64.zero) ≡ true
 unfolding F64.max isNan ofBits le
 max-zero x = go (lt F64.zero x) refl
   where
@@ -55,7 +55,7 @@ within-finite nan n d w = absurd w
 within-finite (inf s) n d w = absurd w
 within-finite (fin s m e) n d w = refl
 
-finite-below : (x y : Float) → Plus x → T (le x y) → F64.isFinite y ≡ true → F64.isFinite x ≡ true
+pub finite-below : (x y : Float) → Plus x → T (le x y) → F64.isFinite y ≡ true → F64.isFinite x ≡ true
 unfolding le F64.isFinite
 finite-below nan y p t f = absurd p
 finite-below (inf true) y p t f = yes p
@@ -118,9 +118,7 @@ headway-at trailer leader intended headway n d k f ft fi fh = rw (k .1, fh) (go 
         wrap-in-circle (add binary64 from safe) c k sum
 
 pub headway-in-circle : HeadwayInCircle
-unfolding HeadwayInCircle F64.isFinite
-headway-in-circle trailer leader intended headway nan k f ft fi fh = yes (k .1)
-headway-in-circle trailer leader intended headway (inf u) k f ft fi fh = yes (k .1)
-headway-in-circle trailer leader intended headway (fin true n d) k f ft fi fh = yes (sym (minus-le-zero n d) ∙ k .1)
-headway-in-circle trailer leader intended headway (fin false zero d) k f ft fi fh = yes (sym (null-le-zero false d) ∙ k .1)
-headway-in-circle trailer leader intended headway (fin false (suc n) d) k f ft fi fh = headway-at trailer leader intended headway n d k f ft fi fh
+unfolding HeadwayInCircle
+headway-in-circle trailer leader intended headway c k f ft fi fh =
+    on-circle (λ c. F64.isFinite (add binary64 c c) ≡ true → InCircle (headwayClampTarget trailer leader intended headway c) c)
+    (λ n d k f. headway-at trailer leader intended headway n d k f ft fi fh) c k f
