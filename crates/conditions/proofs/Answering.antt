@@ -1,13 +1,13 @@
 -- What every call gives: a refusal on its condition and on no other, and what a refusal and a tick leave as it was. Assumes nothing.
-use mathlib.Core.Path.{_≡_, refl, sym, _∙_}
-use mathlib.Core.Logic.{inl, inr}
+use mathlib.Core.Path.{_≡_, refl, sym}
+use mathlib.Core.Logic.{_⊎_, inl, inr}
 use mathlib.Core.Bool.{Bool, true, false, true≢false, cond}
 use mathlib.Core.List.{List, [], _∷_, _++_}
 use native.Mathlib.Omega.{arith}
 use Prim.Native.Nat.{ℕ, _+_, _<_, _≤_}
 use lib.Dec.{eqb}
 use lib.ListN.{length, getD, set}
-use lib.Seq.{sets, length-sets}
+use lib.Seq.{length-sets}
 use lib.Ieee.{Float}
 use borrow.Author.Tests.{ltb-false, eqb-false}
 use Rattle.world.specs.World.{carAt, newCar}
@@ -16,7 +16,7 @@ use Rattle.sound.specs.Sound.{broken}
 use Rattle.world.specs.Refusal.{Check, check, unless}
 use Rattle.world.specs.declared.World.{World}
 use Rattle.world.specs.declared.refusal.Refusal.{Refusal}
-use Rattle.world.specs.declared.refusal.Refusal.the-variants.{BrokenWorld, CutShort}
+use Rattle.world.specs.declared.refusal.Refusal.the-variants.{BrokenWorld, CutShort, UnknownKind}
 use Rattle.tape_records.specs.Answers as TapeAnswers
 use Rattle.tape.specs.Tape as Tape
 use Rattle.tape.specs.Tape.{Kind, kinds, kindIn, decoded}
@@ -45,8 +45,53 @@ use Rattle.tick.proofs.Proved.{words-fit}
 use Rattle.record_kinds.specs.Kinds.{changeBy}
 use Rattle.record.specs.declared.Answer.{Answer}
 use Rattle.record.specs.declared.Answer.the-variants.{Refused}
-use Rattle.record.specs.Record.{Outcome, accepted, refused, changed, checksOfTick, ticked, tickOnce, readBy, recordOf}
-use Rattle.conditions.specs.Conditions.{Kept, FirstCondition, Answers, stateChecks, behind, checksIn, conditions, OnItsCondition}
+use Rattle.record.specs.Record.{Outcome, isAccepted, accepted, refused, changed, checksOfTick, ticked, tickOnce, readBy, recordOf}
+use Rattle.conditions.specs.Conditions.{Kept, FirstCondition}
+
+-- ---- the checks of a call, in the order in which the definition makes them
+
+-- the conditions that the state brings, in the order of their numbers
+abbrev pub stateChecks : World → List ℕ → Record → List Check
+stateChecks w serves (Line number kind listed count) = lineChecks w number (lineRow kind listed count serves)
+stateChecks w serves (Stop number position) = stopChecks w number
+stateChecks w serves (Car number plan) = carChecks w number plan
+stateChecks w serves (Rider number rider) = riderChecks w number rider
+stateChecks w serves (Send car stop reposition) = sendChecks w car stop
+stateChecks w serves (Mode car mode) = orderChecks w car
+stateChecks w serves (ManualSpeed car speed) = orderChecks w car
+stateChecks w serves (DoorCommand car command) = commandChecks w car
+stateChecks w serves (HallCall stop down) = callChecks w stop
+stateChecks w serves (Destination car stop) = destinationChecks w car stop
+stateChecks w serves (Enable car enabled) = orderChecks w car
+stateChecks w serves Start = startChecks w
+
+abbrev pub behind : World → List ℕ → List ℕ → Read → List Check
+behind w log serves (Read.Refused r) = check r true ∷ []
+behind w log serves (Read.Accepted read used) = stateChecks w serves read
+behind w log serves (Read.Tick dt used) = checksOfTick w log
+
+-- a kind's conditions: those that the input brings, then the state's
+abbrev pub checksIn : World → List ℕ → ℕ → List Kind → List Check
+checksIn w log k [] = check UnknownKind true ∷ []
+checksIn w log k (t ∷ ts) =
+    cond (eqb k (t .number)) (t .deed .checks ++ behind w log (t .deed .done .serves) (t .deed .done .read)) (checksIn w log k ts)
+
+-- all conditions of a call, "in the order of the numbers, 2 before a short body"; "A line's count outside its codes is found before the body is measured."
+unfoldable pub conditions : World → List ℕ → List ℕ → List Check
+conditions w words log =
+    check BrokenWorld (broken w)
+    ∷ check CutShort (eqb (length words) 0)
+    ∷ checksIn w log (kindOf (getD words 0 0)) (kinds (headOf (getD words 0 0)) words)
+
+-- the answer is the refusal of the first condition that holds; where none holds the record is accepted
+unfoldable pub Answers : List Check → Answer → Type 0
+Answers [] a = isAccepted a ≡ true
+Answers (c ∷ cs) a = ((c .holds ≡ true) × (a ≡ Refused (c .refusal))) ⊎ ((c .holds ≡ false) × Answers cs a)
+
+unfoldable pub OnItsCondition : Type 0
+OnItsCondition = (w : World) (words log : List ℕ) → Answers (conditions w words log) (recordOf w words log .answer)
+
+-- ---- what a call gives
 
 -- checks before others: the first that holds refuses; else it is answered as by what follows
 unless-answers : {A : Type 0} (answer : A → Answer) (cs ds : List Check) (refused : Refusal → A) (next : A)
