@@ -1,4 +1,4 @@
--- The third condition, proved. Assumes nothing.
+-- What holds with Manual mode, and the third condition from it. Assumes nothing.
 use mathlib.Core.Path.{_≡_, refl, _∙_}
 use mathlib.Core.Logic.{_⊎_, inl, inr}
 use mathlib.Core.Bool.{Bool, true, false, _||_}
@@ -14,30 +14,38 @@ use Rattle.tick.specs.Counters.{isMove, movesIn, sumTo}
 use Rattle.record.specs.Calls.{Empty, Call, next, worldAfter}
 use Rattle.laws.specs.Numbers.{bit}
 use Rattle.laws.specs.Counting.{howMany}
-use Rattle.certificate.specs.Certificate.{NoManual, DoorsHold, told, joined, Is, LogHolds, ThirdCondition}
+use Rattle.certificate.specs.Certificate.{NoManual, DoorsHold, told, joined, Is, Between, LogHolds, ThirdCondition}
+use Rattle.certificate.specs.Manual.{NeverManual, DoorHolds, CarHolds, AnyHolds, WithManual}
 use Rattle.certificate.proofs.Watch.{openAfter, Calm, is, isMoveOf, calm-between}
-use Rattle.certificate.proofs.Records.{Keeps, Kept, call-kept}
+use Rattle.certificate.proofs.Records.{Sums, Holds, Kept, call-kept}
 
--- ---- a list of calls
+-- ---- a list of calls: the totals, and what is held of each car that none of them puts into Manual mode
 
 record After (w : World) (calls : List Call) (j : List ℕ) : Type 0 where
-  keeps : Keeps (j ++ joined w calls) (worldAfter w calls)
-  doors : DoorsHold w calls
+  sums : Sums (worldAfter w calls) (j ++ joined w calls)
+  cars : (n : ℕ) → Holds n w j → NeverManual w calls n → Holds n (worldAfter w calls) (j ++ joined w calls) × DoorHolds w calls n
 
-calls-kept : (calls : List Call) (w : World) (j : List ℕ) → Keeps j w → NoManual w calls → After w calls j
-unfolding joined worldAfter DoorsHold NoManual
-calls-kept [] w j h q = record { keeps = rw (append-nil j) h; doors = tt }
-calls-kept (c ∷ cs) w j h q =
-    let k : Kept w c j = call-kept w c j h (q .0) in
-    let a : After (next w c) cs (j ++ told w c) = calls-kept cs (next w c) (j ++ told w c) (k .keeps) (q .1) in
-    record { keeps = rw (← append-assoc j (told w c) (joined (next w c) cs)) (a .keeps); doors = (λ t i l. k .stands t i, a .doors) }
+calls-kept : (calls : List Call) (w : World) (j : List ℕ) → Sums w j → After w calls j
+unfolding joined worldAfter DoorHolds NeverManual
+calls-kept [] w j h = record { sums = rw (append-nil j) h; cars = λ n k q. (rw (append-nil j) k, tt) }
+calls-kept (c ∷ cs) w j h =
+    let k : Kept w c j = call-kept w c j h in
+    let a : After (next w c) cs (j ++ told w c) = calls-kept cs (next w c) (j ++ told w c) (k .keeps .0) in
+    record {
+      sums = rw (← append-assoc j (told w c) (joined (next w c) cs)) (a .sums);
+      cars = λ n held q.
+          let rest = a .cars n (k .keeps .1 n held (q .0)) (q .1) in
+          (rw (← append-assoc j (told w c) (joined (next w c) cs)) (rest .0), (λ t l. k .stands t n held, rest .1));
+    }
 
-empty-keeps : (w : World) → Empty w → Keeps [] w
-unfolding openAfter Calm howMany sumTo
-empty-keeps w e = (
-  record { full = e .places; few = omega (arith, e .cars); fit = λ i l. absurd (omega (arith, e .cars, l)); fresh = λ i l. refl; calm = λ i. tt },
-  record { cars = e .moves ∙ rw (e .cars); words = e .moves },
-)
+module _ (w : World) (e : Empty w) where
+  empty-sums : Sums w []
+  unfolding howMany sumTo
+  empty-sums = record { full = e .places; cars = e .moves ∙ rw (e .cars); words = e .moves }
+
+  empty-holds : (n : ℕ) → Holds n w []
+  unfolding openAfter Calm
+  empty-holds n = record { fit = λ l. absurd (omega (arith, e .cars, l)); fresh = λ l. refl; calm = tt }
 
 -- ---- the paper's words
 
@@ -57,10 +65,9 @@ never k n x h = go (eqb (kindOf x) k) (eqb (carOf x) n) refl refl
     go true false p q = rw (p, q)
     go false b p q = rw p
 
-log-holds : (log : List ℕ) → ((n : ℕ) → Calm n false log) → LogHolds log
-unfolding LogHolds
-log-holds log h n x =
-    calm-between n (x .before) (x .opened) (x .middle) (x .move) (x .rest) (rw (x .split) at (h n)) (is-of 6 n (x .opened) (x .opens))
+log-holds : (log : List ℕ) (n : ℕ) → Calm n false log → Between n log → ⊥
+log-holds log n h x =
+    calm-between n (x .before) (x .opened) (x .middle) (x .move) (x .rest) (rw (x .split) at h) (is-of 6 n (x .opened) (x .opens))
     (move-of n (x .move) (x .moves)) (λ word d. never 7 n word (x .unclosed word d))
 
 one-kind : (k : ℕ) → bit (isMove k) ≡ bit (eqb k 1) + bit (eqb k 2) + bit (eqb k 3)
@@ -80,12 +87,35 @@ unfolding howMany
 counts [] = refl
 counts (w ∷ ws) = omega (arith, one-kind (kindOf w), counts ws)
 
-pub third-condition : ThirdCondition
-unfolding ThirdCondition
-third-condition w e calls q =
-    let a : After w calls [] = calls-kept calls w [] (empty-keeps w e) q in
+pub with-manual : WithManual
+unfolding WithManual
+with-manual w e calls =
+    let a : After w calls [] = calls-kept calls w [] (empty-sums w e) in
     record {
-      doors = a .doors;
-      log = log-holds (joined w calls) (a .keeps .0 .calm);
-      totals = record { cars = a .keeps .1 .cars; words = a .keeps .1 .words ∙ counts (joined w calls) };
+      totals = record { cars = a .sums .cars; words = a .sums .words ∙ counts (joined w calls) };
+      cars = λ n q.
+          let car = a .cars n (empty-holds w e n) q in
+          record { door = car .1; log = log-holds (joined w calls) n (car .0 .calm) };
     }
+
+-- ---- the third condition follows
+
+never-manual : (calls : List Call) (w : World) → NoManual w calls → (n : ℕ) → NeverManual w calls n
+unfolding NoManual NeverManual
+never-manual [] w q n = tt
+never-manual (c ∷ cs) w q n = (rw (q .0), never-manual cs (next w c) (q .1) n)
+
+doors-hold : (calls : List Call) (w : World) → ((n : ℕ) → DoorHolds w calls n) → DoorsHold w calls
+unfolding DoorsHold DoorHolds
+doors-hold [] w h = tt
+doors-hold (c ∷ cs) w h = (λ t n. h n .0 t, doors-hold cs (next w c) (λ n. h n .1))
+
+third : WithManual → ThirdCondition
+unfolding WithManual ThirdCondition LogHolds
+third claim w e calls q =
+    let a : AnyHolds w calls = claim w e calls in
+    let car : (n : ℕ) → CarHolds w calls n = λ n. a .cars n (never-manual calls w q n) in
+    record { doors = doors-hold calls w (λ n. car n .door); log = λ n. car n .log; totals = a .totals }
+
+pub third-condition : ThirdCondition
+third-condition = third with-manual

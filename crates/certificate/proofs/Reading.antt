@@ -1,6 +1,6 @@
 -- What the record call's first checks say: the record read from a head word, and the counters of a world that is not broken. Assumes nothing.
 use mathlib.Core.Path.{_≡_, refl, sym, _∙_}
-use mathlib.Core.Bool.{Bool, true, false, _&&_, _||_}
+use mathlib.Core.Bool.{Bool, true, false, _&&_, _||_, and-true}
 use mathlib.Core.List.{List, [], _∷_}
 use Prim.Native.Nat.{ℕ, zero, suc, _^_, _<_, _≤_}
 use native.Mathlib.Nat.{eq-or-lt-of-le}
@@ -8,7 +8,7 @@ use native.Mathlib.Omega.{arith}
 use mathlib.Core.Logic.{_⊎_, ⊎-elim}
 use lib.Dec.{eqb, leb, ltb}
 use lib.ListN.{length, getD}
-use borrow.Author.Tests.{eqb-true, leb-false}
+use borrow.Author.Tests.{eqb-true, eq-eqb, leb-false}
 use Rattle.laws.proofs.Bools.{yes}
 use Rattle.world.specs.World.{carAt, lineAt, riderAt}
 use Rattle.sound_rows.specs.Rows.{anyTo, carBroken, lineBroken, riderBroken, unloaded, phaseUnloaded, stopUnloaded}
@@ -24,7 +24,7 @@ use Rattle.tape.specs.Tape.{Kind, kindIn, kinds, recordOf, decoded}
 use Rattle.tape_records.specs.Answers.{refused}
 use Rattle.tape_loads.specs.LoadRecords.{lineRecord}
 use Rattle.fields.specs.Fields.{headOf}
-use Rattle.layout.specs.Layout.{kindOf, vOf}
+use Rattle.layout.specs.Layout.{kindOf, nOf, vOf}
 use Rattle.tape_records.specs.declared.Decoded.{Decoded}
 use Rattle.tape_records.specs.declared.Read.{Read}
 use Rattle.tape_records.specs.declared.Read.the-variants.{Accepted, Refused, Tick}
@@ -34,7 +34,7 @@ use Rattle.tick.specs.Counters.{Low}
 use Rattle.laws.proofs.Choices.{both, cases}
 use Rattle.world.proofs.Checks.{unless-has}
 
--- ---- the record read from words with the head h: only kind C is a tick, and only kind 6 with v 3 makes a car Manual
+-- ---- the record read from words with the head h: only kind C is a tick, and only kind 6 with v 3 makes a car Manual, that of its n
 
 -- of a mode: Manual only by v 3
 abbrev pub Says : ℕ → Record → Type 0
@@ -43,7 +43,7 @@ Says h (Record.Stop number position) = Unit {0}
 Says h (Record.Car number plan) = Unit {0}
 Says h (Record.Rider number rider) = Unit {0}
 Says h (Record.Send car stop reposition) = Unit {0}
-Says h (Record.Mode car mode) = eqb (kindOf h) 6 && eqb (vOf h) 3 ≡ false → isManual mode ≡ false
+Says h (Record.Mode car mode) = eqb (kindOf h) 6 && eqb (vOf h) 3 && eqb (nOf h) car ≡ false → isManual mode ≡ false
 Says h (Record.ManualSpeed car speed) = Unit {0}
 Says h (Record.DoorCommand car command) = Unit {0}
 Says h (Record.HallCall stop down) = Unit {0}
@@ -79,13 +79,16 @@ pub decoded-reads : (ws : List ℕ) → Reads (getD ws 0 0) (decoded ws .read)
 unfolding decoded recordOf lineRecord
 decoded-reads ws =
     both (λ (x : Decoded). Reads h (x .read)) (eqb (length ws) 0) tt
-    (kind-reads (Reads h) (kindOf h) (kinds (headOf h) ws) (λ r. tt) (no 1 refl, (no 2 refl, (no 3 refl, (no 4 refl, (no 5 refl, ((λ e. (not-tick 6 refl e, λ q. not-manual (vOf h) (rw e at q))), (no 7 refl, (no 8 refl, (no 9 refl, (no 10 refl, (no 11 refl, ((λ e. e), (no 13 refl, tt))))))))))))))
+    (kind-reads (Reads h) (kindOf h) (kinds (headOf h) ws) (λ r. tt) (no 1 refl, (no 2 refl, (no 3 refl, (no 4 refl, (no 5 refl, ((λ e. (not-tick 6 refl e, λ q. not-manual (vOf h) (mine e q))), (no 7 refl, (no 8 refl, (no 9 refl, (no 10 refl, (no 11 refl, ((λ e. e), (no 13 refl, tt))))))))))))))
   where
     h : ℕ
     h = getD ws 0 0
 
     not-tick : (m : ℕ) → eqb m 12 ≡ false → eqb (kindOf h) m ≡ true → eqb (kindOf h) 12 ≡ false
     not-tick m q e = rw (eqb-true (kindOf h) m e) q
+
+    mine : eqb (kindOf h) 6 ≡ true → eqb (kindOf h) 6 && eqb (vOf h) 3 && eqb (nOf h) (nOf h) ≡ false → eqb (vOf h) 3 ≡ false
+    mine e q = sym (and-true (eqb (vOf h) 3)) ∙ (rw (e, eq-eqb (nOf h) (nOf h) refl) at q)
 
     no : (m : ℕ) → eqb m 12 ≡ false → eqb (kindOf h) m ≡ true → (eqb (kindOf h) 12 ≡ false) × Unit {0}
     no m q e = (not-tick m q e, tt)

@@ -1,9 +1,10 @@
--- A tick keeps what is held, and moves no car whose door was not closed when it began. Assumes nothing.
+-- A tick keeps what is held of a car, and does not move it where its door was not closed when it began. Assumes nothing.
 use mathlib.Core.Path.{_≡_, refl, ap, _∙_}
 use mathlib.Core.Bool.{Bool, true, false}
 use mathlib.Core.List.{List, [], _∷_, _++_, append-assoc}
 use Prim.Native.Nat.{ℕ, zero, suc, _+_, _≤_, min}
 use native.Mathlib.Omega.{arith}
+use lib.ListN.{length}
 use lib.Ieee.{Float}
 use Rattle.door.specs.Door.{isClosed}
 use Rattle.world.specs.World.{carAt}
@@ -16,7 +17,6 @@ use Rattle.log_words.specs.Words.{wordOf}
 use Rattle.laws.specs.Numbers.{bit}
 use Rattle.log_words.specs.declared.Event.the-variants.{TickMade}
 use Rattle.read_back.proofs.Reading.{kind-tick}
-use Rattle.steps.specs.Steps.{runCars}
 use Rattle.steps.specs.declared.JustOpened.{JustOpened}
 use Rattle.movement_system.specs.Movement.{moveOf, moved}
 use Rattle.doors_system.specs.Doors.{standing, carsOf, doorOf, doored, doorsWorld, doorsWords}
@@ -28,8 +28,8 @@ use Rattle.tick.proofs.Turns.{moves-append}
 use Rattle.tick.proofs.Proved.{nothing-wraps}
 use Rattle.certificate.specs.Certificate.{positionOf}
 use Rattle.certificate.proofs.Watch.{Told, told-none, told-join, told-tick, told-dull}
-use Rattle.certificate.proofs.Turns.{move-good, move-rests, door-good, door-stands}
-use Rattle.certificate.proofs.Holding.{Held, Summed, held-dull, Ran, run-ran}
+use Rattle.certificate.proofs.Turns.{move-good, move-rests, move-silent, door-good, door-silent, door-stands}
+use Rattle.certificate.proofs.Holding.{Held, Summed, held-same, run-full, run-count, Ran, run-ran}
 
 -- ---- the two systems
 
@@ -40,20 +40,18 @@ Rests c d = isClosed (c .door) ≡ false → d ≡ c
 rests-then : (a b c : Car) → Rests a b → Rests b c → Rests a c
 rests-then a b c p q h = q (rw (p h) h) ∙ p h
 
-moved-ran : (w : World) (dt : Float) (log : List ℕ) → Held (w .cars) (w .«car_count») log → Ran Rests w log (moved w dt)
-unfolding moved runCars
-moved-ran w dt log h =
-    run-ran (moveOf dt) Rests (λ c e. refl) rests-then (λ v i o l f. move-good v i o l f dt) (λ v i o l f. move-rests v i o l f dt) w log h
-    (min (w .«car_count») 16) (omega arith)
+moved-ran : (n : ℕ) (w : World) (dt : Float) (log : List ℕ) → length (w .cars) ≡ 16 → Held n (w .cars) (w .«car_count») log → Ran Rests n w log (moved w dt)
+unfolding moved
+moved-ran n w dt log =
+    run-ran (moveOf dt) Rests (λ c e. refl) rests-then (λ v i o l f. move-good v i o l f dt) (λ v i o l f. move-rests v i o l f dt) (move-silent dt) n w log
 
 -- a car stays where it is
 abbrev Stands : Car → Car → Type 0
 Stands c d = d .motion ≡ c .motion
 
-doored-ran : (w : World) (log : List ℕ) → Held (w .cars) (w .«car_count») log → Ran Stands w log (doored w)
-unfolding doored runCars
-doored-ran w log h =
-    run-ran doorOf Stands (λ c. refl) (λ a b c p q. q ∙ p) door-good (λ v i o l f. door-stands v i) w log h (min (w .«car_count») 16) (omega arith)
+doored-ran : (n : ℕ) (w : World) (log : List ℕ) → length (w .cars) ≡ 16 → Held n (w .cars) (w .«car_count») log → Ran Stands n w log (doored w)
+unfolding doored
+doored-ran n w log = run-ran doorOf Stands (λ c. refl) (λ a b c p q. q ∙ p) door-good (λ v i o l f. door-stands v i) door-silent n w log
 
 -- ---- the hall calls' words say nothing of a door
 
@@ -73,21 +71,41 @@ module _ (i : ℕ) (o : Bool) where
 
 -- ---- a tick
 
-pub record Ticks (w : World) (dt : Float) (log : List ℕ) : Type 0 where
-  pub held : Held (tickWorld w dt .cars) (tickWorld w dt .«car_count») (log ++ tickWords w dt)
-  pub stands : (i : ℕ) → isClosed (carAt (w .cars) i .door) ≡ false → positionOf (tickWorld w dt) i ≡ positionOf w i
-  pub count : tickWorld w dt .«car_count» ≡ w .«car_count»
+-- it changes neither the table's size nor how many cars there are
+moved-full : (w : World) (dt : Float) → length (moved w dt .world .cars) ≡ length (w .cars)
+unfolding moved
+moved-full w dt = run-full (moveOf dt) w
+
+moved-count : (w : World) (dt : Float) → moved w dt .world .«car_count» ≡ w .«car_count»
+unfolding moved
+moved-count w dt = run-count (moveOf dt) w
+
+doored-count : (w : World) → doored w .world .«car_count» ≡ w .«car_count»
+unfolding doored
+doored-count w = run-count doorOf w
+
+tick-full : (w : World) (dt : Float) → length (tickWorld w dt .cars) ≡ length (w .cars)
+unfolding tickWorld doorsWorld doored
+tick-full w dt = run-full doorOf (moved w dt .world) ∙ moved-full w dt
+
+tick-count : (w : World) (dt : Float) → tickWorld w dt .«car_count» ≡ w .«car_count»
+unfolding tickWorld doorsWorld
+tick-count w dt = doored-count (moved w dt .world) ∙ moved-count w dt
+
+-- car n
+pub record Ticks (n : ℕ) (w : World) (dt : Float) (log : List ℕ) : Type 0 where
+  pub held : Held n (tickWorld w dt .cars) (tickWorld w dt .«car_count») (log ++ tickWords w dt)
+  pub stands : isClosed (carAt (w .cars) n .door) ≡ false → positionOf (tickWorld w dt) n ≡ positionOf w n
 
 regroup : (l : List ℕ) (x : ℕ) (a b c : List ℕ) → l ++ (x ∷ (a ++ (b ++ c))) ≡ l ++ (x ∷ []) ++ a ++ b ++ c
 regroup l x a b c = simp append-assoc
 
-pub tick-ticks : (w : World) (dt : Float) (log : List ℕ) → Held (w .cars) (w .«car_count») log → Ticks w dt log
+pub tick-ticks : (n : ℕ) (w : World) (dt : Float) (log : List ℕ) → length (w .cars) ≡ 16 → Held n (w .cars) (w .«car_count») log → Ticks n w dt log
 unfolding tickWorld tickWords doorsWorld doorsWords
-tick-ticks w dt log h = record {
-  held = rw (d .count, regroup log (wordOf (TickMade (w .ticks))) (moved w dt .words) (doored v .words) (clearWordsTo os (standing v) (carsOf v)))
-      (held-dull (d .held) (λ i o. calls-told i o os (standing v) (carsOf v)));
-  stands = λ i q. ap (λ (m : Motion). m .position) (d .keeps i) ∙ ap (λ (c : Car). c .motion .position) (m .keeps i q);
-  count = d .count ∙ m .count;
+tick-ticks n w dt log full h = record {
+  held = rw (doored-count v, regroup log (wordOf (TickMade (w .ticks))) (moved w dt .words) (doored v .words) (clearWordsTo os (standing v) (carsOf v)))
+      (held-same (d .held) refl (λ o. calls-told n o os (standing v) (carsOf v)));
+  stands = λ q. ap (λ (m : Motion). m .position) (d .keeps) ∙ ap (λ (c : Car). c .motion .position) (m .keeps q);
 }
   where
     v : World
@@ -99,22 +117,22 @@ tick-ticks w dt log h = record {
     begun : List ℕ
     begun = log ++ (wordOf (TickMade (w .ticks)) ∷ [])
 
-    m : Ran Rests w begun (moved w dt)
-    m = moved-ran w dt begun (held-dull h (λ i o. told-tick i o (wordOf (TickMade (w .ticks))) (kind-tick (w .ticks))))
+    m : Ran Rests n w begun (moved w dt)
+    m = moved-ran n w dt begun full (held-same h refl (λ o. told-tick n o (wordOf (TickMade (w .ticks))) (kind-tick (w .ticks))))
 
-    d : Ran Stands v (begun ++ moved w dt .words) (doored v)
-    d = doored-ran v (begun ++ moved w dt .words) (rw (m .count) (m .held))
+    d : Ran Stands n v (begun ++ moved w dt .words) (doored v)
+    d = doored-ran n v (begun ++ moved w dt .words) (moved-full w dt ∙ full) (rw (moved-count w dt) (m .held))
 
 -- its moves are counted
 all-cars : (n : ℕ) → n ≤ 16 → min n 16 ≡ n
 all-cars n h = omega arith
 
-pub tick-sums : (w : World) (dt : Float) (log : List ℕ) → w .«car_count» ≤ 16 → tickWorld w dt .«car_count» ≡ w .«car_count» → Low w
-    → Summed (w .cars) (w .«car_count») (w .«total_moves») log
+pub tick-sums : (w : World) (dt : Float) (log : List ℕ) → w .«car_count» ≤ 16 → Low w → Summed (w .cars) (w .«car_count») (w .«total_moves») log
     → Summed (tickWorld w dt .cars) (tickWorld w dt .«car_count») (tickWorld w dt .«total_moves») (log ++ tickWords w dt)
 unfolding NothingWraps
-tick-sums w dt log few same low s = record {
-  cars = rw same (k .total ∙ omega (arith, s .cars, sums));
+tick-sums w dt log few low s = record {
+  full = tick-full w dt ∙ s .full;
+  cars = rw (tick-count w dt) (k .total ∙ omega (arith, s .cars, sums));
   words = k .total ∙ omega (arith, s .words, moves-append log (tickWords w dt));
 }
   where

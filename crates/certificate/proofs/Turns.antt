@@ -1,11 +1,10 @@
--- A car's turn in either system keeps what the third condition needs of the car. Assumes nothing.
+-- A car's turn in either system keeps what the door parts need of the car, and its words say nothing of another. Assumes nothing.
 use mathlib.Core.Path.{_≡_, refl, sym, ap, _∙_}
 use mathlib.Core.Bool.{Bool, true, false, _&&_, Bool·beq}
 use mathlib.Core.List.{List, [], _∷_, _++_}
 use Prim.Native.Nat.{ℕ, zero, suc, _+_, _-_, _*_, _<_, min}
-use lib.Dec.{leb}
+use lib.Dec.{eqb, leb}
 use lib.Ieee.{Float}
-use Rattle.motion.specs.declared.movement.MovementResult.{MovementResult}
 use Rattle.laws.proofs.Bools.{yes, no}
 use Rattle.door.specs.Door.{isClosed}
 use Rattle.door.specs.declared.Ticked.{Ticked}
@@ -15,21 +14,18 @@ use Rattle.world.specs.World.{carAt}
 use Rattle.world.specs.declared.World.{World}
 use Rattle.world.specs.declared.Car.{Car}
 use Rattle.world.specs.declared.QueuedCommand.{QueuedCommand}
-use Rattle.world.specs.declared.LineKind.{LineKind}
 use Rattle.world.specs.declared.ElevatorPhase.{ElevatorPhase}
 use Rattle.world.specs.declared.ElevatorPhase.the-variants.{Idle, MovingToStop, Repositioning, DoorOpening, Loading, DoorClosing, Stopped}
 use Rattle.world.specs.declared.StopOption.{StopOption}
 use Rattle.world.specs.declared.StopOption.the-variants.{NoStop, Stop}
-use Rattle.log_words.specs.Words.{codeOf, ticksOf}
+use Rattle.log_words.specs.Words.{word, codeOf, ticksOf}
 use Rattle.laws.specs.Numbers.{bit}
 use Rattle.steps.specs.Steps.{isManual, isInspection, lampsOf, bothLit, unlit, updateIndicators, Step}
 use Rattle.world.specs.declared.Lamps.{Lamps}
 use Rattle.trips.specs.Trips.{tripBy, tripOf, isTrip}
 use Rattle.trips.specs.Spans.{movingUp}
 use Rattle.trips.specs.declared.Trip.{Trip}
-use Rattle.trips.specs.declared.Trip.the-variants.{GoesTo, Repositions}
 use Rattle.movement_system.specs.Passing.{passingWords}
-use Rattle.movement_system.specs.Movement as Movement
 use Rattle.movement_system.specs.Movement.{moveOf}
 use Rattle.movement_system.proofs.Cases.{move-cases}
 use Rattle.door_commands.specs.Commands.{queued, triedOn, workTo, workWordsTo, processDoorCommands, commandWords}
@@ -39,7 +35,7 @@ use Rattle.door_ticks.specs.Ticks.{Turn, departedFrom, finishedOpening, finishe
 use Rattle.door_ticks.proofs.Cases.{door-cases}
 use Rattle.door_commands.specs.declared.Work.{Work}
 use Rattle.laws.proofs.Choices.{both}
-use Rattle.certificate.proofs.Watch.{Told, told-none, told-join, told-dull, told-word}
+use Rattle.certificate.proofs.Watch.{Told, Silent, told-none, told-join, told-dull, told-word, told-other}
 
 -- phase and door agree, and where the door is closed the log says so too
 pub data Sound : ElevatorPhase → DoorState → Bool → Type 0 where
@@ -65,17 +61,35 @@ pub record Good (i : ℕ) (o : Bool) (c : Car) (ws : List ℕ) : Type 0 where
 still : (i : ℕ) (o : Bool) (c : Car) → Fit c o → Good i o c []
 still i o c f = record { end = o; told = told-none i o; fit = f }
 
-lamps-told : (i : ℕ) (o : Bool) (was lamps : Lamps) → Told i o o (updateIndicators i was lamps)
-lamps-told i o was lamps =
-    both (Told i o o) (Bool·beq (was .«going_up») (lamps .«going_up») && Bool·beq (was .«going_down») (lamps .«going_down»)) (told-none i o)
-    (told-dull i o 5 i 0 (2 * bit (lamps .«going_up») + bit (lamps .«going_down»)) refl refl refl)
+lamps-told : (n : ℕ) (o : Bool) (i : ℕ) (was lamps : Lamps) → Told n o o (updateIndicators i was lamps)
+lamps-told n o i was lamps =
+    both (Told n o o) (Bool·beq (was .«going_up») (lamps .«going_up») && Bool·beq (was .«going_down») (lamps .«going_down»)) (told-none n o)
+    (told-dull n o 5 i 0 (2 * bit (lamps .«going_up») + bit (lamps .«going_down»)) refl refl refl)
 
 -- ---- movement
 
-passing-told : (i : ℕ) (up : Bool) (ss : List ℕ) → i < 16 → Told i false false (passingWords i up ss)
+-- no word of car i but those of its door says anything of car n, whose door is open by the log or not
+abbrev Bears : ℕ → Bool → ℕ → Type 0
+Bears n o i = (k s v : ℕ) → eqb k 6 ≡ false → eqb k 7 ≡ false → Told n o o (word k i s v ∷ [])
+
+passing-told : {n : ℕ} {o : Bool} (i : ℕ) → Bears n o i → (up : Bool) (ss : List ℕ) → Told n o o (passingWords i up ss)
 unfolding passingWords
-passing-told i up [] low = told-none i false
-passing-told i up (s ∷ ss) low = told-join (told-word i low 1 s (bit up) (λ _. refl) refl) (passing-told i up ss low)
+passing-told {n} {o} i b up [] = told-none n o
+passing-told {n} {o} i b up (s ∷ ss) = told-join (b 1 s (bit up) refl refl) (passing-told i b up ss)
+
+-- the words of car i's turn, where those of a trip say nothing of car n
+move-told : (n : ℕ) (o : Bool) (w : World) (i : ℕ) → (isTrip (tripOf (carAt (w .cars) i)) ≡ true → Bears n o i) → (dt : Float)
+    → Told n o o (moveOf dt w i .words)
+move-told n o w i b =
+    let c : Car = carAt (w .cars) i in
+    move-cases (λ s. Told n o o (s .words)) w i (told-none n o)
+    (λ e trip kind r. passing-told i (b e) (movingUp kind (c .motion .position) (r .position)) _)
+    (λ e s kind r lamps. told-join (b e 2 s 0 refl refl) (lamps-told n o i (lampsOf c) lamps))
+    (λ e s kind r lamps. told-join (b e 3 s 0 refl refl) (told-join (told-dull n o 4 i s 0 refl refl refl) (lamps-told n o i (lampsOf c) bothLit)))
+
+-- they say nothing of another car
+pub move-silent : (dt : Float) (w : World) (i n : ℕ) → i < 16 → (n ≡ i → ⊥) → Silent n (moveOf dt w i .words)
+move-silent dt w i n low other o = move-told n o w i (λ e k s v six seven. told-other n i low other k s v o) dt
 
 -- a car that makes a trip has a closed door, by the log too
 abbrev Shut : DoorState → Bool → Trip → Type 0
@@ -100,37 +114,18 @@ module _ (w : World) (i : ℕ) (o : Bool) (low : i < 16) (f : Fit (carAt (w .car
   abbrev c : Car
   c = carAt (w .cars) i
 
-  abbrev Moves : Step → Type 0
-  Moves s = Good i o (s .car) (s .words)
-
-  pass-good : isTrip (tripOf c) ≡ true → (trip : Trip) (kind : LineKind) (r : MovementResult) → Moves (Movement.passes w i trip kind r)
-  pass-good e trip kind r =
-      rw (shut c o f e .1)
-      (record { end = false; told = passing-told i (movingUp kind (c .motion .position) (r .position)) _ low; fit = record { sound = rw (shut c o f e .1) at (f .sound); tame = f .tame } })
-
-  arrived-good : isTrip (tripOf c) ≡ true → (s : ℕ) (kind : LineKind) (r : MovementResult) (lamps : Lamps) → Moves (Movement.arrives w i (GoesTo s) kind r lamps)
-  arrived-good e s kind r lamps =
-      rw (shut c o f e .1)
-      (record {
-        end = false;
-        told = told-join (told-word i low 2 s 0 (λ _. refl) refl) (lamps-told i false (lampsOf c) lamps);
-        fit = record { sound = opening; tame = f .tame };
-      })
-
-  repositioned-good : isTrip (tripOf c) ≡ true → (s : ℕ) (kind : LineKind) (r : MovementResult) (lamps : Lamps)
-      → Moves (Movement.arrives w i (Repositions s) kind r lamps)
-  repositioned-good e s kind r lamps =
-      rw (shut c o f e .1)
-      (record {
-        end = false;
-        told =
-            told-join (told-word i low 3 s 0 (λ _. refl) refl)
-            (told-join (told-dull i false 4 i s 0 refl refl refl) (lamps-told i false (lampsOf c) bothLit));
-        fit = record { sound = rw (shut c o f e .0) idle; tame = f .tame };
-      })
+  -- its own moves stand where its door is closed
+  own-bears : isTrip (tripOf c) ≡ true → Bears i o i
+  own-bears e k s v six seven = told-word i low k s v (λ _. shut c o f e .1) (rw (six, seven))
 
   pub move-good : (dt : Float) → Good i o (moveOf dt w i .car) (moveOf dt w i .words)
-  move-good = move-cases Moves w i (still i o c f) pass-good arrived-good repositioned-good
+  move-good dt = record {
+    end = o;
+    told = move-told i o w i own-bears dt;
+    fit = move-cases (λ s. Fit (s .car) o) w i f (λ e trip kind r. record { sound = f .sound; tame = f .tame })
+        (λ e s kind r lamps. record { sound = opening; tame = f .tame })
+        (λ e s kind r lamps. record { sound = rw (shut c o f e .0, shut c o f e .1) idle; tame = f .tame }) dt;
+  }
 
   -- a car whose door is not closed is left as it is
   pub move-rests : (dt : Float) → isClosed (c .door) ≡ false → moveOf dt w i .car ≡ c
@@ -144,16 +139,26 @@ commands-sound : (c : Car) (at traversing : Bool) (o : Bool) → Sound (c .phase
     → Sound (processDoorCommands c at traversing .phase) (processDoorCommands c at traversing .door) o
 commands-sound c at traversing o = commands-keep (λ p d. Sound p d o) (λ a b. opening) (λ a. closing) (λ a b cd s. loading) c at traversing
 
-words-told : (c : Car) (at traversing : Bool) (i : ℕ) (o : Bool) (n : ℕ) → Told i o o (workWordsTo c at traversing i n)
+words-told : (n : ℕ) (o : Bool) (c : Car) (at traversing : Bool) (i m : ℕ) → Told n o o (workWordsTo c at traversing i m)
 unfolding workWordsTo
-words-told c at traversing i o zero = told-none i o
-words-told c at traversing i o (suc n) =
-    let q : QueuedCommand = queued c at traversing n in
-    told-join (words-told c at traversing i o n)
-    (both (Told i o o) (triedOn c at traversing (workTo c at traversing n) q .applied)
-    (told-dull i o 10 i (codeOf (q .command)) (ticksOf (q .command)) refl refl refl) (told-none i o))
+words-told n o c at traversing i zero = told-none n o
+words-told n o c at traversing i (suc m) =
+    let q : QueuedCommand = queued c at traversing m in
+    told-join (words-told n o c at traversing i m)
+    (both (Told n o o) (triedOn c at traversing (workTo c at traversing m) q .applied)
+    (told-dull n o 10 i (codeOf (q .command)) (ticksOf (q .command)) refl refl refl) (told-none n o))
 
 -- ---- the door's tick
+
+departed-told : (n : ℕ) (o : Bool) (s : StopOption) (i : ℕ) → Told n o o (departedFrom s i)
+departed-told n o NoStop i = told-none n o
+departed-told n o (Stop s) i = told-dull n o 8 i s 0 refl refl refl
+
+-- the words of a car whose door has closed, by the first
+closed-told : {n : ℕ} {o o′ : Bool} (i : ℕ) (c : Car) (k : Work) (next : StopOption) (d : DoorState) → Told n o o′ (word 7 i 0 0 ∷ [])
+    → Told n o o′ (finishedClosing next i c k d .words)
+closed-told {n} {o} {o′} i c k NoStop d t = told-join t (lamps-told n o′ i (lampsOf c) bothLit)
+closed-told {n} {o} {o′} i c k (Stop s) d t = told-join t (told-join (lamps-told n o′ i (lampsOf c) unlit) (departed-told n o′ (c .«target_stop») i))
 
 module _ (i : ℕ) (low : i < 16) (c : Car) (tame : isManual (c .«service_mode») ≡ false) (k : Work) where
   abbrev Turns : Bool → Turn → Type 0
@@ -162,24 +167,15 @@ module _ (i : ℕ) (low : i < 16) (c : Car) (tame : isManual (c .«service_mode�
   rests-good : (o : Bool) (p : ElevatorPhase) (d : DoorState) → Sound p d o → Turns o (rests c k p d)
   rests-good o p d s = record { end = o; told = told-none i o; fit = record { sound = s; tame = tame } }
 
-  departed-told : (s : StopOption) → Told i false false (departedFrom s i)
-  departed-told NoStop = told-none i false
-  departed-told (Stop s) = told-dull i false 8 i s 0 refl refl refl
-
   opened-good : (o : Bool) (od cd : ℕ) → Turns o (finishedOpening i c k (Open od cd))
   opened-good o od cd = record { end = true; told = told-word i low 6 0 0 (λ h. no h) refl; fit = record { sound = loading; tame = tame } }
 
   closed-good : (o : Bool) (next : StopOption) → Turns o (finishedClosing next i c k Closed)
-  closed-good o NoStop = record {
-    end = false;
-    told = told-join (told-word i low 7 0 0 (λ h. no h) refl) (lamps-told i false (lampsOf c) bothLit);
-    fit = record { sound = stopped; tame = tame };
-  }
-  closed-good o (Stop s) = record {
-    end = false;
-    told = told-join (told-word i low 7 0 0 (λ h. no h) refl) (told-join (lamps-told i false (lampsOf c) unlit) (departed-told (c .«target_stop»)));
-    fit = record { sound = moving; tame = tame };
-  }
+  closed-good o next = record { end = false; told = closed-told i c k next Closed (told-word i low 7 0 0 (λ h. no h) refl); fit = fit next }
+    where
+      fit : (next : StopOption) → Fit (finishedClosing next i c k Closed .car) false
+      fit NoStop = record { sound = stopped; tame = tame }
+      fit (Stop s) = record { sound = moving; tame = tame }
 
   door-by : (next : StopOption) (p : ElevatorPhase) (d : DoorState) (o : Bool) → Sound p d o → Turns o (doorBy p d i c k next)
   door-by next p d o idle = rests-good false Idle Closed idle
@@ -209,13 +205,30 @@ unfolding commandWords
 door-turn i low c at traversing next o f =
     let k : Work = processDoorCommands c at traversing in
     both (λ (t : Turn). Good i o (t .car) (t .words)) (c .enabled)
-    (after-good (words-told c at traversing i o (min (c .«command_count») 8))
+    (after-good (words-told i o c at traversing i (min (c .«command_count») 8))
     (door-by i low c (f .tame) k next (k .phase) (k .door) o (commands-sound c at traversing o (f .sound))))
     (still i o c f)
 
 pub door-good : (w : World) (i : ℕ) (o : Bool) → i < 16 → Fit (carAt (w .cars) i) o → Good i o (doorOf w i .car) (doorOf w i .words)
 unfolding doorOf
 door-good w i o low f = door-turn i low (carAt (w .cars) i) _ _ _ o f
+
+-- the words of a car's turn say nothing of another
+turn-silent : (i n : ℕ) → i < 16 → (n ≡ i → ⊥) → (c : Car) (at traversing : Bool) (next : StopOption) → Silent n (doorTurn i c at traversing next .words)
+unfolding commandWords
+turn-silent i n low other c at traversing next o =
+    let k : Work = processDoorCommands c at traversing in
+    let Says : Turn → Type 0 = λ t. Told n o o (t .words) in
+    let none : (d : DoorState) → Told n o o [] = λ d. told-none n o in
+    both Says (c .enabled)
+    (told-join (words-told n o c at traversing i (min (c .«command_count») 8))
+    (door-cases Says i c k next none (λ d. told-other n i low other 6 0 0 o) none (λ d. closed-told i c k NoStop d (told-other n i low other 7 0 0 o))
+    (λ s d e. closed-told i c k (Stop s) d (told-other n i low other 7 0 0 o))))
+    (told-none n o)
+
+pub door-silent : (w : World) (i n : ℕ) → i < 16 → (n ≡ i → ⊥) → Silent n (doorOf w i .words)
+unfolding doorOf
+door-silent w i n low other = turn-silent i n low other (carAt (w .cars) i) _ _ _
 
 -- no turn of the doors moves a car
 turn-stands : (i : ℕ) (c : Car) (at traversing : Bool) (next : StopOption) → doorTurn i c at traversing next .car .motion ≡ c .motion

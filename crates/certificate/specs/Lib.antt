@@ -1,2 +1,3 @@
 pub mod Certificate
+pub mod Manual
 pub mod Examples
