@@ -20,7 +20,7 @@ use Rattle.world.specs.declared.StopOption.{StopOption}
 use Rattle.world.specs.declared.StopOption.the-variants.{NoStop, Stop}
 use Rattle.log_words.specs.Words.{word, codeOf, ticksOf}
 use Rattle.laws.specs.Numbers.{bit}
-use Rattle.steps.specs.Steps.{isManual, isInspection, lampsOf, bothLit, unlit, updateIndicators, Step}
+use Rattle.steps.specs.Steps.{isManual, isInspection, lampsOf, bothLit, unlit, updateIndicators}
 use Rattle.world.specs.declared.Lamps.{Lamps}
 use Rattle.trips.specs.Trips.{tripBy, tripOf, isTrip}
 use Rattle.trips.specs.Spans.{movingUp}

@@ -1,9 +1,7 @@
 -- The third condition of lent calls, from that of the calls that the definitions make. Assumes nothing.
 use mathlib.Core.Path.{_≡_, refl}
 use mathlib.Core.List.{List, [], _∷_}
-use Prim.Native.Nat.{ℕ}
 use Rattle.world.specs.declared.World.{World}
-use Rattle.record.specs.Record.{Outcome}
 use Rattle.record.specs.Calls.{outcome, next}
 use Rattle.certificate.specs.Certificate.{NoManual, DoorsHold, joined, Holds, ThirdCondition}
 use Rattle.certificate.proofs.Proved.{third-condition}
@@ -27,7 +25,7 @@ same (m ∷ ms) w h =
     record {
       tame = λ q. (rw e at (q .0), s .tame (q .1));
       doors = λ q. rw e (q .0, s .doors (q .1));
-      log = rw (e, s .log);
+      log = rw (e, s .log) refl;
     }
 
 as-called : LentCalls → (w : World) (ms : List Made) → InTurn w ms → AsCalled w ms
@@ -40,4 +38,4 @@ third-lent w e ms t q =
     let a : AsCalled w ms = as-called lent-calls w ms t in
     let s : Same w ms = same ms w (a .each) in
     let h : Holds w (given ms) = third-condition w e (given ms) (s .tame q) in
-    record { doors = s .doors (h .doors); log = rw (s .log) (h .log); totals = rw (a .last, s .log) (h .totals) }
+    record { doors = s .doors (h .doors); log = rw (← s .log) at (h .log); totals = rw (← a .last, ← s .log) at (h .totals) }
