@@ -39,7 +39,7 @@ use Rattle.orders.specs.Orders.{canGo}
 use Rattle.tick.specs.Room.{roomFor}
 use Rattle.record_kinds.specs.PaperRoom.{PaperRoom}
 use Rattle.record_kinds.proofs.Proved.{paper-room}
-use Rattle.conditions.specs.Refusals.{kind, n, s, v, served, RawZero, phaseOf, phaseCarOf, aboardOf, topOf, million, thousand, ten, one, NotInSize, size-not-finite, size-above, NotFromZero, from-not-finite, from-below, from-above, NotAboveZero, above-not-finite, above-below, above-above, Broken, destinations-above, commands-above, NoKind, kind-0, kind-above, stop-number, line-number, rider-number, route-number, NotNow, load-after, order-before, second-start, Place, places, Verdict}
+use Rattle.conditions.specs.Refusals.{kind, n, s, v, served, RawZero, phaseOf, phaseCarOf, aboardOf, topOf, million, thousand, ten, one, NotInSize, size-not-finite, size-above, NotFromZero, from-not-finite, from-below, from-above, NotAboveZero, above-not-finite, above-below, above-above, Broken, destinations-above, commands-above, NoKind, kind-0, kind-above, stop-number, line-number, rider-number, route-number, NotNow, load-after, order-before, second-start, CountOutside, CutShort, FieldOutside, FloatOutside, NotNext, NotLoaded, CannotGo, QueueFull, LastTick, LogShort, place, Place, Verdict}
 use Rattle.conditions.proofs.Answering.{behind, checksIn}
 use Rattle.conditions.proofs.Deciding.{Decides, less, most, same, flag, clear, fails, through, never, non, _and_, _or_, past, choice, Some, any}
 use Rattle.conditions.proofs.Reading.{Read, done, silent, asked, sure}
@@ -226,17 +226,29 @@ busy Stopped = never (λ h. h .1 refl)
 
 -- ---- the kinds
 
-abbrev pub tail : List Place → List Place
-tail [] = []
-tail (p ∷ ps) = ps
-
 module _ (x : Verdict) (w : World) (words log : List ℕ) where
-  -- all places from that of the kind on, and those behind it
-  abbrev pub fromKind : List Place
-  fromKind = tail (tail (places w words log))
+  -- the places from that of the kind on: `in-order` of Given.antt holds them to the page's
+  abbrev from9 : List Place
+  from9 =
+      place 9 (CannotGo w words)
+      ∷ place 10 (QueueFull w words)
+      ∷ place 11 (LastTick w words)
+      ∷ place 12 (LogShort w words log)
+      ∷ []
 
   abbrev behindKind : List Place
-  behindKind = tail fromKind
+  behindKind =
+      place 3 (CountOutside words)
+      ∷ place 1 (CutShort words)
+      ∷ place 3 (FieldOutside words)
+      ∷ place 4 (FloatOutside words)
+      ∷ place 6 (NotNow w words)
+      ∷ place 7 (NotNext w words)
+      ∷ place 8 (NotLoaded w words)
+      ∷ from9
+
+  abbrev pub fromKind : List Place
+  fromKind = place 2 (NoKind words) ∷ behindKind
 
   -- a kind's checks
   abbrev readIn : Deed → List Check
@@ -261,7 +273,7 @@ module _ (x : Verdict) (w : World) (words log : List ℕ) where
 
   -- 9 to 12, of a kind that they do not ask
   quiet : {k : ℕ} → kind words ≡ k → (Ask.GoAsks w words k → ⊥) → (Ask.QueueAsks w words k → ⊥) → (Ask.LastAsks w words k → ⊥) → (Ask.LogAsks w words log k → ⊥)
-      → Read x [] (tail (tail (tail (tail (tail (tail (tail behindKind)))))))
+      → Read x [] from9
   quiet K a b c d =
       silent x (λ h. a (Ask.go-asks w words K h)) λ n9.
       silent x (λ h. b (Ask.queue-asks w words K h)) λ n10.

@@ -1,5 +1,5 @@
 -- A refusal is given on its condition and on no other. Assumes nothing.
-use mathlib.Core.Path.{_≡_, refl, ap}
+use mathlib.Core.Path.{_≡_, refl, ap, subst⁻¹}
 use mathlib.Core.Logic.{_⊎_, inl, inr}
 use mathlib.Core.Bool.{true}
 use mathlib.Core.List.{List, [], _∷_}
@@ -20,12 +20,12 @@ use Rattle.record.specs.Record.{isAccepted, recordOf}
 use Rattle.report.specs.declared.Reported.{Reported}
 use Rattle.report.specs.declared.Reported.the-variants as Reported
 use Rattle.report.specs.Report.{anyUnknown, countsOf, totalsOf, countedReport, reportOf}
-use Rattle.conditions.specs.Refusals.{LogKind, kind-unknown, places, reportPlaces, Verdict, taken, refused, verdict, reportVerdict, ByPlaces, GivenOnItsCondition}
+use Rattle.conditions.specs.Refusals.{Broken, NoWord, LogKind, kind-unknown, place, places, reportPlaces, Verdict, taken, refused, verdict, reportVerdict, ByPlaces, GivenOnItsCondition}
 use Rattle.conditions.proofs.Answering.{Answers, conditions, OnItsCondition, on-its-condition}
 use Rattle.conditions.proofs.Deciding.{Decides, most, same, through, never, _or_}
 use Rattle.conditions.proofs.Reading.{Says, Read, done, asked, not-first}
 use Rattle.conditions.proofs.BrokenWorld.{broken-decided}
-use Rattle.conditions.proofs.ByKind.{kinds-read}
+use Rattle.conditions.proofs.ByKind.{fromKind, kinds-read}
 
 -- ---- the record call
 
@@ -39,12 +39,18 @@ says [] a e = accepted-taken a e
 says (c ∷ cs) a (inl q) = inl (q .0, ap verdict (q .1))
 says (c ∷ cs) a (inr q) = inr (q .0, says cs a (q .1))
 
+-- the page's order
+in-order : (x : Verdict) (w : World) (words log : List ℕ)
+    → places w words log ≡ place 0 (Broken w) ∷ place 1 (NoWord words) ∷ fromKind x w words log
+in-order x w words log = refl
+
 all-read : (x : Verdict) (w : World) (words log : List ℕ) → Read x (conditions w words log) (places w words log)
 unfolding conditions
 all-read x w words log =
-    asked x refl (broken-decided w) λ n0.
+    subst⁻¹ (Read x (conditions w words log)) (in-order x w words log)
+    (asked x refl (broken-decided w) λ n0.
     asked x refl (same (length words) 0) λ n1.
-    kinds-read x w words log n0
+    kinds-read x w words log n0)
 
 record-given : (w : World) (words log : List ℕ) → ByPlaces (places w words log) (verdict (recordOf w words log .answer))
 unfolding OnItsCondition

@@ -1,5 +1,7 @@
--- "A refusal is given on its condition and on no other": every refusal by its number, its conditions in the paper's words and order, and what a call answers then.
--- It is to be held beside "A record comes in" alone: no list of checks and no decoder of the definition is named here, only the plain readers of words, floats and the world.
+-- "A refusal is given on its condition and on no other": every refusal by its number, its conditions in the paper's
+-- words and order, and what a call answers then.
+-- It is to be held beside "A record comes in" alone: no list of checks and no decoder of the definition is named here,
+-- only the plain readers of words, floats and the world.
 use mathlib.Core.Path.{_≡_}
 use mathlib.Core.Logic.{_⊎_, _↔_, _≢_}
 use mathlib.Core.Bool.{true, false, cond}
@@ -102,7 +104,8 @@ pub data NotAboveZero (most x : Float) : Type 0 where
   above-below : le x zero ≡ true → NotAboveZero most x
   above-above : lt most x ≡ true → NotAboveZero most x
 
--- ---- 0: "a lent world with a count above its table or limit, a queue above 8, a move counter of 2 to the 48 or more, or a number in it that is not loaded"
+-- ---- 0: "a lent world with a count above its table or limit, a queue above 8, a move counter of 2 to the 48 or more,
+-- or a number in it that is not loaded"
 
 pub data Broken (w : World) : Type 0 where
   -- "a count above its table": 64 stops, 8 lines, 16 cars, 128 riders; 64 stops in a line's list
@@ -121,20 +124,34 @@ pub data Broken (w : World) : Type 0 where
   moves-high : (c : ℕ) → c < w .«car_count» → 2 ^ 48 ≤ carAt (w .cars) c .«move_count» → Broken w
   -- "or a number in it that is not loaded", which is one that is not below the count of its table: in a line's list
   listed-unloaded :
-      (l i : ℕ) → l < w .«line_count» → i < lineAt (w .lines) l .«serves_count» → w .«stop_count» ≤ getD (lineAt (w .lines) l .serves) i 0 → Broken w
+      (l i : ℕ) → l < w .«line_count» → i < lineAt (w .lines) l .«serves_count»
+      → w .«stop_count» ≤ getD (lineAt (w .lines) l .serves) i 0 → Broken w
   -- a car's line, the stop of its phase, its target, its destinations
   line-unloaded : (c : ℕ) → c < w .«car_count» → w .«line_count» ≤ carAt (w .cars) c .line → Broken w
-  moving-unloaded : (c stop : ℕ) → c < w .«car_count» → carAt (w .cars) c .phase ≡ MovingToStop stop → w .«stop_count» ≤ stop → Broken w
-  repositioning-unloaded : (c stop : ℕ) → c < w .«car_count» → carAt (w .cars) c .phase ≡ Repositioning stop → w .«stop_count» ≤ stop → Broken w
-  target-unloaded : (c stop : ℕ) → c < w .«car_count» → carAt (w .cars) c .«target_stop» ≡ Stop stop → w .«stop_count» ≤ stop → Broken w
+  moving-unloaded :
+      (c stop : ℕ) → c < w .«car_count» → carAt (w .cars) c .phase ≡ MovingToStop stop → w .«stop_count» ≤ stop
+      → Broken w
+  repositioning-unloaded :
+      (c stop : ℕ) → c < w .«car_count» → carAt (w .cars) c .phase ≡ Repositioning stop → w .«stop_count» ≤ stop
+      → Broken w
+  target-unloaded :
+      (c stop : ℕ) → c < w .«car_count» → carAt (w .cars) c .«target_stop» ≡ Stop stop → w .«stop_count» ≤ stop
+      → Broken w
   queued-unloaded :
-      (c i : ℕ) → c < w .«car_count» → i < carAt (w .cars) c .«destination_count» → w .«stop_count» ≤ getD (carAt (w .cars) c .«destination_queue») i 0 → Broken w
+      (c i : ℕ) → c < w .«car_count» → i < carAt (w .cars) c .«destination_count»
+      → w .«stop_count» ≤ getD (carAt (w .cars) c .«destination_queue») i 0 → Broken w
   -- a rider's destination, the car of its phase, the car aboard
-  route-unloaded : (r stop : ℕ) → r < w .«rider_count» → riderAt (w .riders) r .destination ≡ Stop stop → w .«stop_count» ≤ stop → Broken w
-  boarding-unloaded : (r c : ℕ) → r < w .«rider_count» → riderAt (w .riders) r .phase ≡ Boarding c → w .«car_count» ≤ c → Broken w
-  riding-unloaded : (r c : ℕ) → r < w .«rider_count» → riderAt (w .riders) r .phase ≡ Riding c → w .«car_count» ≤ c → Broken w
-  exiting-unloaded : (r c : ℕ) → r < w .«rider_count» → riderAt (w .riders) r .phase ≡ Exiting c → w .«car_count» ≤ c → Broken w
-  aboard-unloaded : (r c : ℕ) → r < w .«rider_count» → riderAt (w .riders) r .aboard ≡ OfCar c → w .«car_count» ≤ c → Broken w
+  route-unloaded :
+      (r stop : ℕ) → r < w .«rider_count» → riderAt (w .riders) r .destination ≡ Stop stop → w .«stop_count» ≤ stop
+      → Broken w
+  boarding-unloaded :
+      (r c : ℕ) → r < w .«rider_count» → riderAt (w .riders) r .phase ≡ Boarding c → w .«car_count» ≤ c → Broken w
+  riding-unloaded :
+      (r c : ℕ) → r < w .«rider_count» → riderAt (w .riders) r .phase ≡ Riding c → w .«car_count» ≤ c → Broken w
+  exiting-unloaded :
+      (r c : ℕ) → r < w .«rider_count» → riderAt (w .riders) r .phase ≡ Exiting c → w .«car_count» ≤ c → Broken w
+  aboard-unloaded :
+      (r c : ℕ) → r < w .«rider_count» → riderAt (w .riders) r .aboard ≡ OfCar c → w .«car_count» ≤ c → Broken w
   -- the stop of a hall call
   up-unloaded : (stop : ℕ) → w .«stop_count» ≤ stop → called (w .«up_calls») stop ≡ true → Broken w
   down-unloaded : (stop : ℕ) → w .«stop_count» ≤ stop → called (w .«down_calls») stop ≡ true → Broken w
@@ -150,7 +167,8 @@ pub data CutShort (words : List ℕ) : Type 0 where
   line-cut : kind words ≡ 1 → length words < 5 + served words → CutShort words
   -- a stop's "body position", a manual speed's "body a float", a tick's "body dt"
   float-cut : OneOf (kind words) (2 ∷ 7 ∷ 12 ∷ []) → length words < 3 → CutShort words
-  -- "position, velocity, max speed, acceleration, deceleration, inspection factor; then transition ticks and open ticks, a word each"
+  -- "position, velocity, max speed, acceleration, deceleration, inspection factor; then transition ticks and open
+  -- ticks, a word each"
   car-cut : kind words ≡ 3 → length words < 15 → CutShort words
   -- a rider's "Body word"
   rider-cut : kind words ≡ 4 → length words < 2 → CutShort words
@@ -161,7 +179,8 @@ pub data NoKind (words : List ℕ) : Type 0 where
   kind-0 : kind words ≡ 0 → NoKind words
   kind-above : 13 < kind words → NoKind words
 
--- ---- 3: "a field outside its codes or number range, or an unused bit set", asked in two places: "A line's count outside its codes is found before the body is measured."
+-- ---- 3: "a field outside its codes or number range, or an unused bit set", asked in two places: "A line's count
+-- outside its codes is found before the body is measured."
 
 -- "v count of served stops, at most 64, or 65,535 for no list"
 pub data CountOutside (words : List ℕ) : Type 0 where
@@ -204,7 +223,8 @@ pub data FieldOutside (words : List ℕ) : Type 0 where
   rider-number : kind words ≡ 4 → 127 < s words → FieldOutside words
   -- "cars 0 to 15", which n always is: "phase's car (phases 1 to 3; else 255)"
   phase-car-number : kind words ≡ 4 → 1 ≤ phaseOf words → phaseOf words ≤ 3 → 15 < phaseCarOf words → FieldOutside words
-  phase-car-set : kind words ≡ 4 → ((1 ≤ phaseOf words) × (phaseOf words ≤ 3) → ⊥) → phaseCarOf words ≢ 255 → FieldOutside words
+  phase-car-set :
+      kind words ≡ 4 → ((1 ≤ phaseOf words) × (phaseOf words ≤ 3) → ⊥) → phaseCarOf words ≢ 255 → FieldOutside words
   -- "car aboard or 255"
   aboard-number : kind words ≡ 4 → 15 < aboardOf words → aboardOf words ≢ 255 → FieldOutside words
 
@@ -256,17 +276,21 @@ pub data NotLoaded (w : World) (words : List ℕ) : Type 0 where
   -- a car's "s line"
   line-named : kind words ≡ 3 → w .«line_count» ≤ s words → NotLoaded w words
   -- a line's served stops
-  served-named : (i : ℕ) → kind words ≡ 1 → i < served words → w .«stop_count» ≤ getD words (5 + i) 0 → NotLoaded w words
+  served-named :
+      (i : ℕ) → kind words ≡ 1 → i < served words → w .«stop_count» ≤ getD words (5 + i) 0 → NotLoaded w words
   -- a rider's "destination stop or 65,535 for none", "phase's car (phases 1 to 3 ..)", "car aboard or 255"
   route-named : kind words ≡ 4 → v words ≢ 65535 → w .«stop_count» ≤ v words → NotLoaded w words
-  phase-car-named : kind words ≡ 4 → 1 ≤ phaseOf words → phaseOf words ≤ 3 → w .«car_count» ≤ phaseCarOf words → NotLoaded w words
+  phase-car-named :
+      kind words ≡ 4 → 1 ≤ phaseOf words → phaseOf words ≤ 3 → w .«car_count» ≤ phaseCarOf words → NotLoaded w words
   aboard-named : kind words ≡ 4 → aboardOf words ≢ 255 → w .«car_count» ≤ aboardOf words → NotLoaded w words
 
 -- ---- 9: "send to a car that is disabled, or neither Idle nor Stopped"
 
 pub data CannotGo (w : World) (words : List ℕ) : Type 0 where
   car-disabled : kind words ≡ 5 → carAt (w .cars) (n words) .enabled ≡ false → CannotGo w words
-  car-busy : kind words ≡ 5 → carAt (w .cars) (n words) .phase ≢ Idle → carAt (w .cars) (n words) .phase ≢ Stopped → CannotGo w words
+  car-busy :
+      kind words ≡ 5 → carAt (w .cars) (n words) .phase ≢ Idle → carAt (w .cars) (n words) .phase ≢ Stopped
+      → CannotGo w words
 
 -- ---- 10: "the queue that the record adds to (8: the car's door queue, A: its destination queue) holds 8"
 
@@ -357,7 +381,8 @@ reportPlaces w log = place 0 (Broken w) ∷ place 5 (LogKind log) ∷ []
 
 pub record GivenOnItsCondition : Type 0 where
   -- of the record call
-  pub record-call : (w : World) (words log : List ℕ) → ByPlaces (places w words log) (verdict (recordOf w words log .answer))
+  pub record-call :
+      (w : World) (words log : List ℕ) → ByPlaces (places w words log) (verdict (recordOf w words log .answer))
   -- which never gives 5
   pub never-5 : (w : World) (words log : List ℕ) → verdict (recordOf w words log .answer) ≡ refused 5 → ⊥
   -- of the report
