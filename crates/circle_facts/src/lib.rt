@@ -1,4 +1,4 @@
-// Facts of the formulas, over any circle, that later proofs rest on.
+// Facts of the formulas over any circle: those that proofs rest on, and those that a checker of arithmetic asks for.
 ghost use mathlib.Core.Path.{_≡_};
 ghost use mathlib.Core.Bool.{true};
 ghost use Rattle.circle_facts.specs.Facts.{Facts};
