@@ -1,4 +1,6 @@
 // What a car does that comes to its stop: movement.rs, direction_from_remaining_work and the queue's front.
+#![tactic(auto)]
+
 ghost use Rattle.std.specs.Prelude.{◌≡◌, min};
 ghost use Rattle.arrival.specs.Arrival as Arrival;
 

@@ -9,7 +9,7 @@ use door::{DoorState, DoorTransition};
 // A door and a transition. state: 0 Closed, 1 Opening, 2 Open, 3 Closing; a field that the state
 // does not have is 0. transition: 0 None, 1 FinishedOpening, 2 FinishedOpen, 3 FinishedClosing.
 #[repr(C)]
-#[derive(Drop)]
+#[derive(Clone, Copy)]
 pub struct DoorWords {
     pub state: u32,
     pub ticks_remaining: u32,

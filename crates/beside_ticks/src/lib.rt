@@ -1,4 +1,6 @@
 // Record calls for the bench: the first records of a tape, from the empty world on, and a sum over what they leave.
+#![tactic(auto)]
+
 ghost use Rattle.std.specs.Prelude.{◌≡◌};
 ghost use Rattle.float.specs.Float.{number_bits};
 ghost use Rattle.record.specs.Record.{used_of, written_of};
@@ -13,7 +15,7 @@ use world::empty::empty;
 use world::{Car, World};
 
 // Where the records ended: the world, the words of the tape that they used, the log words that they wrote.
-#[derive(Drop)]
+#[derive(Clone, Copy)]
 struct Played {
     world: World,
     used: usize,

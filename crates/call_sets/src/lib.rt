@@ -1,4 +1,6 @@
 // Hall calls in one direction: a set of stops in a u64. A stop from 64 on is in no set.
+#![tactic(auto)]
+
 ghost use Rattle.std.specs.Prelude.{◌≡◌, true};
 ghost use Rattle.call_sets.specs.Calls as Calls;
 ghost use Rattle.call_sets.specs.Sets.{Sets};

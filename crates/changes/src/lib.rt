@@ -1,4 +1,6 @@
 // What the state says of a record, and the world after it; kind D, the start.
+#![tactic(auto)]
+
 ghost use Rattle.std.specs.Prelude.{◌≡◌};
 ghost use Rattle.changes.specs.Changes as Changes;
 ghost use Rattle.changes.specs.Parts as Parts;
@@ -9,14 +11,14 @@ use world::refusal::Refusal;
 use world::{Car, World};
 
 // What the state says of a record.
-#[derive(Drop)]
+#[derive(Clone, Copy)]
 pub enum Taken {
     Accepted,
     Refused(Refusal),
 }
 
 // What it says, and the world after it: on a refusal the one that was given.
-#[derive(Drop)]
+#[derive(Clone, Copy)]
 pub struct Changed {
     pub taken: Taken,
     pub world: World,
@@ -42,7 +44,7 @@ pub fn accepted(world: World) -> Changed
 }
 
 // What hinders an order to a car that is there.
-#[derive(Drop)]
+#[derive(Clone, Copy)]
 pub enum Hindered {
     No,
     By(Refusal),

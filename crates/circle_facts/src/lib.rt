@@ -1,4 +1,6 @@
 // Facts of the formulas over any circle: those that proofs rest on, and those that a checker of arithmetic asks for.
+#![tactic(auto)]
+
 ghost use Rattle.std.specs.Prelude.{◌≡◌, true};
 ghost use Rattle.circle_facts.specs.Facts.{Facts};
 

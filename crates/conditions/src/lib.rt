@@ -1,4 +1,6 @@
 // The certificate's first condition, and that a refusal is given on its condition and on no other.
+#![tactic(auto)]
+
 ghost use Rattle.std.specs.Prelude.{◌≡◌, true};
 ghost use Rattle.conditions.specs.Conditions.{FirstCondition};
 ghost use Rattle.conditions.specs.Refusals.{GivenOnItsCondition};

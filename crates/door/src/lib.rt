@@ -1,11 +1,12 @@
 // The door of a car: a finite-state machine on ticks (door.rs). A state goes in by value and comes back.
+#![tactic(auto)]
 
 ghost use Rattle.std.specs.Prelude.{◌≡◌, true};
 ghost use Rattle.door.specs.Door.{request_open, tick, is_open, is_closed};
 ghost use Rattle.door.specs.Phases.{PhasesEnd};
 
 // Where a door stands, with the ticks left there and those of the phases to come.
-#[derive(Drop)]
+#[derive(Clone, Copy)]
 pub enum DoorState {
     Closed,
     Opening {
@@ -23,7 +24,7 @@ pub enum DoorState {
 }
 
 // What a host asks of a door by hand.
-#[derive(Drop)]
+#[derive(Clone, Copy)]
 pub enum DoorCommand {
     Open,
     Close,
@@ -32,7 +33,7 @@ pub enum DoorCommand {
 }
 
 // The phase that a tick ended, if any.
-#[derive(Drop)]
+#[derive(Clone, Copy)]
 pub enum DoorTransition {
     None,
     FinishedOpening,
@@ -41,7 +42,7 @@ pub enum DoorTransition {
 }
 
 // A door after a tick, and the transition of that tick.
-#[derive(Drop)]
+#[derive(Clone, Copy)]
 pub struct Ticked {
     pub door: DoorState,
     pub transition: DoorTransition,

@@ -1,5 +1,7 @@
 // Document 01's examples of the motion formulas and of the door that are not marked, and those that the Rust's own
 // pages of cyclic.rs give. A line says which example it is, and whether it came out so.
+#![tactic(auto)]
+
 use door::{DoorState, DoorTransition};
 use libc::STDOUT_FILENO;
 use motion::cyclic::{cyclic_distance, forward_distance, wrap_position};

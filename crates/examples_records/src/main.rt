@@ -1,5 +1,7 @@
 // Small tapes, a line each: a name, '=', and the words in hexadecimal. Every record but the last sets the scene.
 // It prints what the last one is answered, or which earlier one was refused. A line that begins with '#' is a heading.
+#![tactic(auto)]
+
 ghost use Rattle.std.specs.Prelude.{◌≤◌};
 
 use libc::{STDIN_FILENO, STDOUT_FILENO};
@@ -9,7 +11,7 @@ use world::empty::empty;
 use world::refusal::{Refusal, number};
 
 // How a tape's last record was answered.
-#[derive(Drop)]
+#[derive(Clone, Copy)]
 enum End {
     Accepted,
     Refused(Refusal),
@@ -22,7 +24,7 @@ fn print(text: &[u8]) {
 
 // ---- the words of a line
 
-#[derive(Drop)]
+#[derive(Clone, Copy)]
 struct Words {
     words: [u32; 256],
     count: usize,
@@ -102,7 +104,7 @@ fn find(text: &[u8], from: usize, end: usize, byte: u8) -> usize {
 // ---- a tape
 
 // One record: the world after it, the words used, and what it was answered.
-#[derive(Drop)]
+#[derive(Clone, Copy)]
 struct Step {
     end: End,
     used: usize,
@@ -141,7 +143,7 @@ fn after(at: usize, used: usize, end: usize) -> usize
 }
 
 // A tape's records taken, the words of the last, how that was answered, and the world then.
-#[derive(Drop)]
+#[derive(Clone, Copy)]
 struct Ran {
     records: u64,
     used: usize,

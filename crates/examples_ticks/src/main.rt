@@ -1,5 +1,7 @@
 // Tapes with ticks, a line each: a name, '=', and the words in hexadecimal with a space between two. A tape's records are taken one after the
 // other from an empty world. It prints the name, and after each tick the tick's words and the world; a refusal ends the tape. A line without '=' is a heading.
+#![tactic(auto)]
+
 mod play; // a tape's records
 mod show; // a world's lines
 mod text; // the output, gathered in a buffer
@@ -11,7 +13,7 @@ use study_numbers::put;
 use text::{flush, flush_half};
 
 // How far the reading is: behind a '=', `count` words and the `value` of the next, where it has `begun`. `at` is the place in the output's buffer.
-#[derive(Drop)]
+#[derive(Clone, Copy)]
 struct Reading {
     in_words: bool,
     begun: bool,

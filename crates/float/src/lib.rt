@@ -1,4 +1,6 @@
 // f64's methods, as the pages of Rust's standard library have them.
+#![tactic(auto)]
+
 ghost use Rattle.std.specs.Prelude.{◌≡◌};
 ghost use Rattle.float.specs.Float as Float;
 ghost use Rattle.float.specs.Float.{number_bits};

@@ -1,4 +1,6 @@
 // Where a tick takes a car: movement.rs, the motion of run and of tick_manual.
+#![tactic(auto)]
+
 ghost use Rattle.std.specs.Prelude.{◌≡◌};
 ghost use Rattle.landing.specs.Landing as Landing;
 

@@ -1,4 +1,6 @@
 // What is about numbers, truth values and lists alone, and is used everywhere; most of it are laws (proofs/).
+#![tactic(auto)]
+
 ghost use Rattle.std.specs.Prelude.{◌≡◌, min};
 
 // The smaller of a count and the most that there may be.

@@ -1,4 +1,6 @@
 // The leader on a loop: systems/movement.rs.
+#![tactic(auto)]
+
 ghost use Rattle.std.specs.Prelude.{◌≡◌, true};
 ghost use Rattle.leader.specs.Leader.{is_other_car, loop_leader_pos, LeaderIsNearest};
 ghost use Rattle.leader.specs.Ahead.{is_nearer};
@@ -9,7 +11,7 @@ use motion::cyclic::forward_distance;
 use world::Car;
 
 // The Rust's Option of a leader's position.
-#[derive(Drop)]
+#[derive(Clone, Copy)]
 pub enum LeaderOption {
     NoLeader,
     At(f64),

@@ -1,4 +1,6 @@
 // The record call on a lent world, which it updates in place, and the report of one.
+#![tactic(auto)]
+
 ghost use Rattle.std.specs.Prelude.{◌≡◌, true};
 ghost use Rattle.record.specs.Record.{Gives, record_of};
 ghost use Rattle.report.specs.Report.{report_of};

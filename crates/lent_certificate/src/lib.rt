@@ -1,4 +1,6 @@
 // The certificate's third condition over what calls on a lent world were given and gave.
+#![tactic(auto)]
+
 ghost use Rattle.std.specs.Prelude.{◌≡◌, true};
 ghost use Rattle.lent_certificate.specs.LentCertificate.{ThirdLent};
 

@@ -1,4 +1,6 @@
 // Kinds 1 to 4: what is loaded. What the state refuses, and the world after the record.
+#![tactic(auto)]
+
 ghost use Rattle.std.specs.Prelude.{◌≡◌, ◌+◌};
 ghost use Rattle.loads.specs.Loads as Loads;
 

@@ -10,7 +10,7 @@ use world::{Line, StopOption};
 const STOP_POSITION_EPSILON: f64 = 1e-6;
 
 // A line's list; `listed` is false where it has none.
-#[derive(Drop)]
+#[derive(Clone, Copy)]
 pub struct Serves {
     pub listed: bool,
     pub serves: [u8; 64],

@@ -1,4 +1,6 @@
 // Document 01's marked examples, as one claim about the definitions, checked by computing.
+#![tactic(auto)]
+
 ghost use Rattle.std.specs.Prelude.{◌≡◌, true};
 ghost use Rattle.marked.specs.Marked.{Marked};
 

@@ -1,4 +1,6 @@
 // Kinds 6, 7 and B: a car's mode, its manual speed, and whether it is enabled.
+#![tactic(auto)]
+
 ghost use Rattle.std.specs.Prelude.{◌≡◌};
 ghost use Rattle.modes.specs.Modes as Modes;
 

@@ -21,7 +21,7 @@ pub extern "C" fn braking_distance(velocity: f64, deceleration: f64) -> f64
 
 // What one tick gives.
 #[repr(C)]
-#[derive(Drop)]
+#[derive(Clone, Copy)]
 pub struct MovementResult {
     pub position: f64,
     pub velocity: f64,

@@ -1,4 +1,6 @@
 // Refusal 0, "Records never make one", as a claim about lists of record calls.
+#![tactic(auto)]
+
 ghost use Rattle.std.specs.Prelude.{◌≡◌, true};
 ghost use Rattle.never_broken.specs.NeverBroken.{NeverBroken};
 

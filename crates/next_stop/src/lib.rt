@@ -1,4 +1,6 @@
 // The next stop of a loop: dispatch/mod.rs.
+#![tactic(auto)]
+
 ghost use Rattle.std.specs.Prelude.{◌≡◌};
 ghost use Rattle.next_stop.specs.NextStop.{ahead_of, nearer, stop_of, loop_next_stop_forward, loop_next_stop_for_car};
 
@@ -9,7 +11,7 @@ use motion::cyclic::forward_distance;
 use world::{Line, LineKind, StopOption};
 
 // The nearest stop ahead so far.
-#[derive(Drop)]
+#[derive(Clone, Copy)]
 enum Nearest {
     NoneYet,
     Found { distance: f64, stop: u8 },

@@ -1,4 +1,6 @@
 // Kind 5: a car is sent to a stop.
+#![tactic(auto)]
+
 ghost use Rattle.std.specs.Prelude.{◌≡◌};
 ghost use Rattle.orders.specs.Orders as Orders;
 

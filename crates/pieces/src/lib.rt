@@ -1,4 +1,6 @@
 // The study by pieces of its input: the records of the bytes at hand, and the end of the tape.
+#![tactic(auto)]
+
 ghost use Rattle.std.specs.Prelude.{◌≡◌, true, ◌+◌, ◌≤◌, min, length, take};
 ghost use Rattle.study_text.specs.Text.{words_of};
 ghost use Rattle.pieces.specs.Pieces.{Gives, advanced, playing, play_to, fresh};
@@ -15,7 +17,7 @@ use world::World;
 use world::empty::empty;
 
 // A study between two pieces: the world that it keeps, what was counted, and whether it is over: the report or a refusal is printed.
-#[derive(Drop)]
+#[derive(Clone, Copy)]
 pub struct Study {
     pub world: World,
     pub counts: Counts,
@@ -23,7 +25,7 @@ pub struct Study {
 }
 
 // The study after what was at hand, how many bytes of it are kept at the piece's start, and how many bytes of text stand at the buffer's.
-#[derive(Drop)]
+#[derive(Clone, Copy)]
 pub struct Advanced {
     pub study: Study,
     pub held: usize,
@@ -49,7 +51,7 @@ fn goes(ended: bool, over: bool, words: usize, at: usize) -> bool
 }
 
 // After the records: the world and the counts, the next place in the text, and whether one was refused or the study was over before.
-#[derive(Drop)]
+#[derive(Clone, Copy)]
 struct Step {
     world: World,
     counts: Counts,
@@ -58,7 +60,7 @@ struct Step {
 }
 
 // Where the records ended.
-#[derive(Drop)]
+#[derive(Clone, Copy)]
 struct Played {
     step: Step,
     from: usize,
@@ -122,7 +124,7 @@ fn play_bytes(study: Study, bytes: &[u8], ended: bool, log: &mut [u32], out: &mu
 }
 
 // The text's next place, and whether the study is over.
-#[derive(Drop)]
+#[derive(Clone, Copy)]
 struct Closed {
     at: usize,
     over: bool,

@@ -1,4 +1,6 @@
 // The record call: one record of a tape, checked in the paper's order and done. What knows no loop is in record_kinds.
+#![tactic(auto)]
+
 ghost use Rattle.std.specs.Prelude.{◌≡◌};
 ghost use Rattle.record.specs.Record as Call;
 
@@ -27,14 +29,14 @@ use world::refusal::Refusal;
 use world::{LineKind, World};
 
 // An accepted record with the words used and the log words written, or one refusal.
-#[derive(Drop)]
+#[derive(Clone, Copy)]
 pub enum Answer {
     Accepted { used: usize, written: usize },
     Refused(Refusal),
 }
 
 // The answer, and the world after the call: on a refusal the one that was given.
-#[derive(Drop)]
+#[derive(Clone, Copy)]
 pub struct Recorded {
     pub answer: Answer,
     pub world: World,
@@ -65,7 +67,7 @@ fn answered(changed: Changed, used: usize) -> Recorded
 }
 
 // A tick's dt, and the words that its record takes.
-#[derive(Drop)]
+#[derive(Clone, Copy)]
 struct Tick {
     dt: f64,
     used: usize,

@@ -1,4 +1,6 @@
 // What knows no loop of the record call: what each record but the tick does, and what the state says of a tick.
+#![tactic(auto)]
+
 ghost use Rattle.std.specs.Prelude.{◌≡◌, true};
 ghost use Rattle.record_kinds.specs.Kinds as Kinds;
 ghost use Rattle.record_kinds.specs.PaperRoom.{PaperRoom};

@@ -1,4 +1,6 @@
 // Kinds 8, 9 and A: door commands, hall calls and destinations, each where it waits.
+#![tactic(auto)]
+
 ghost use Rattle.std.specs.Prelude.{◌≡◌};
 ghost use Rattle.requests.specs.Requests as Requests;
 

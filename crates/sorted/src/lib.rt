@@ -1,4 +1,6 @@
 // The sort of stops: by position (0 and -0 alike, one that is not a number last), then number.
+#![tactic(auto)]
+
 ghost use Rattle.std.specs.Prelude.{◌≡◌, true, not, ◌+◌, ◌<◌, min};
 ghost use Rattle.sorted.specs.Sorted.{position_before, stop_before, sorted_table, StopsSorted};
 

@@ -1,4 +1,6 @@
 // Refusal 0: whether a lent world has a count, a queue, a counter or a number that records never make.
+#![tactic(auto)]
+
 ghost use Rattle.std.specs.Prelude.{◌≡◌, ℕ, ◌≤◌, ◌^◌, leb};
 ghost use Rattle.world.specs.World.{line_at, car_at, rider_at};
 ghost use Rattle.sound_rows.specs.Rows as Rows;

@@ -1,5 +1,7 @@
 // Refusal 0, a row of a table at a time: whether a lent line, car or rider has a count, a queue, a counter or a number that records
 // never make.
+#![tactic(auto)]
+
 ghost use Rattle.std.specs.Prelude.{◌≡◌, ℕ, ◌≤◌, ◌^◌, leb, length, get_or};
 ghost use Rattle.sound_rows.specs.Rows as Rows;
 ghost use Rattle.sound_rows.specs.Rows.{any_to};

@@ -1,5 +1,7 @@
 // The study: a tape on standard input, its log words and the report on standard output. What is printed is `pieces`' matter; here the input is read
 // and the text written out, in rounds. Of the input only what no record has used yet is kept, so that a tape may have any length.
+#![tactic(auto)]
+
 ghost use Rattle.std.specs.Prelude.{◌≤◌};
 
 use laws::at_most;
@@ -23,7 +25,7 @@ fn flush(out: &[u8], at: usize) -> bool {
 }
 
 // What is at hand of the input: so many bytes of the piece, and whether there is an end to it. A read can fail.
-#[derive(Drop)]
+#[derive(Clone, Copy)]
 struct Input {
     held: usize,
     ended: bool,
@@ -54,7 +56,7 @@ fn with_input(input: Input, piece: &mut [u8]) -> Input {
 }
 
 // The study after a round, what is at hand of the input, and whether another round follows: none after the report, a refusal or a failure.
-#[derive(Drop)]
+#[derive(Clone, Copy)]
 struct Round {
     study: Study,
     input: Input,

@@ -1,4 +1,6 @@
 // Reads a tape (the input record stream): a record's fields, its length, and refusals 1 to 4. Nothing past the words given is read.
+#![tactic(auto)]
+
 pub mod facts; // claims about the definitions
 
 ghost use Rattle.std.specs.Prelude.{◌≡◌};

@@ -1,4 +1,6 @@
 // Reads kinds 1 to 4 of a tape, what a world is loaded with: line, stop, car, rider.
+#![tactic(auto)]
+
 ghost use Rattle.std.specs.Prelude.{◌≡◌, false, ◌≤◌};
 ghost use Rattle.tape_records.specs.Answers.{answer};
 ghost use Rattle.tape_loads.specs.LoadRecords.{serves_count, serves_outside, serves_to, line_fields_outside, line_floats_outside, line_kind_of, line_record, stop_record, motion_at, motion_outside, car_record, rider_body, rider_body_outside, phase_car_outside, rider_phase, car_option, stop_option, rider_record};
@@ -160,7 +162,7 @@ pub fn decode_car(head: Head, words: &[u32]) -> Decoded
 }
 
 // The body word of a rider: bits 7-0 phase, 15-8 phase's car, 23-16 car aboard, top bits.
-#[derive(Drop)]
+#[derive(Clone, Copy)]
 struct RiderBody {
     phase: u8,
     car: u8,

@@ -1,4 +1,6 @@
 // Reads kinds 5 to D of a tape: what cars, hall calls and the clock are told.
+#![tactic(auto)]
+
 ghost use Rattle.std.specs.Prelude.{◌≡◌};
 ghost use Rattle.tape_records.specs.Answers.{answer};
 ghost use Rattle.tape_orders.specs.OrderRecords.{send_record, mode_of, mode_record, speed_of, manual_speed_record, command_of, door_command_record, hall_call_record, destination_record, enable_record, any_field_set, tick_record, start_record};

@@ -1,4 +1,6 @@
 // A tape's records with their values, what is read of a tape, and the checks of a record in their order.
+#![tactic(auto)]
+
 ghost use Rattle.std.specs.Prelude.{◌≡◌, [], ◌∷◌};
 ghost use Rattle.tape_records.specs.Answers.{alone, accepted, refused};
 ghost use Rattle.world.specs.Refusal.{check, unless};
@@ -8,7 +10,7 @@ use world::refusal::Refusal;
 use world::{CarPlan, LineKind, Rider, ServiceMode, SpeedOption};
 
 // A record other than a tick, with its values. A line's list stands beside it, in Decoded.
-#[derive(Drop)]
+#[derive(Clone, Copy)]
 pub enum Record {
     Line {
         number: u8,
@@ -61,7 +63,7 @@ pub enum Record {
 }
 
 // A refusal, a record and how many words it took, or a tick.
-#[derive(Drop)]
+#[derive(Clone, Copy)]
 pub enum Read {
     Refused(Refusal),
     Accepted(Record, usize),
@@ -69,7 +71,7 @@ pub enum Read {
 }
 
 // What a tape begins with. `serves` has a line's list up to its count; all else of it is 0.
-#[derive(Drop)]
+#[derive(Clone, Copy)]
 pub struct Decoded {
     pub read: Read,
     pub serves: [u8; 64],

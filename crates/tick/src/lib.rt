@@ -1,4 +1,6 @@
 // What one tick is (specs/Tick.antt), and claims about it. The code that makes it is `record`.
+#![tactic(auto)]
+
 ghost use Rattle.std.specs.Prelude.{◌≡◌, true};
 ghost use Rattle.tick.specs.Room.{WordsFit};
 ghost use Rattle.tick.specs.Counters.{NothingWraps};

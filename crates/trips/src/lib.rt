@@ -1,4 +1,6 @@
 // A car's trip in a tick: which way it goes, and what it sweeps over.
+#![tactic(auto)]
+
 pub mod span; // what it sweeps over
 
 ghost use Rattle.std.specs.Prelude.{◌≡◌};
@@ -9,7 +11,7 @@ use motion::cyclic::forward_distance;
 use world::{Car, ElevatorPhase, LineKind, ServiceMode};
 
 // Which way a car goes in a tick.
-#[derive(Drop)]
+#[derive(Clone, Copy)]
 pub enum Trip {
     Rests,
     Drives,

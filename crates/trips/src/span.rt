@@ -5,7 +5,7 @@ ghost use Rattle.trips.specs.Spans as Spans;
 use world::LineKind;
 
 // What a tick sweeps over: one range, or the two parts of a seam.
-#[derive(Drop)]
+#[derive(Clone, Copy)]
 pub enum Span {
     Range {
         lo: f64,

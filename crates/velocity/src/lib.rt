@@ -1,4 +1,6 @@
 // A velocity after a tick: movement.rs, tick_movement, and the velocity ramp of systems/movement.rs.
+#![tactic(auto)]
+
 pub mod fp; // fp.rs
 
 ghost use Rattle.std.specs.Prelude.{◌≡◌};

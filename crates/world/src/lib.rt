@@ -1,5 +1,7 @@
 // The world of a traffic study: stops, lines, cars and riders in numbered tables, the hall calls, and the totals.
 // It goes in by value and comes back. What lies past a table's count means nothing.
+#![tactic(auto)]
+
 pub mod empty; // a new car, the empty world
 pub mod refusal; // the refusals and their numbers
 pub mod with; // a car with some of its fields changed
@@ -7,7 +9,7 @@ pub mod with; // a car with some of its fields changed
 use door::{DoorCommand, DoorState};
 
 // components/line.rs: the kind of a line.
-#[derive(Drop)]
+#[derive(Clone, Copy)]
 pub enum LineKind {
     Linear,
     Loop {
@@ -17,7 +19,7 @@ pub enum LineKind {
 }
 
 // A line: its kind, and the stops that it serves in order; `listed` is false where it has no list.
-#[derive(Drop)]
+#[derive(Clone, Copy)]
 pub struct Line {
     pub kind: LineKind,
     pub listed: bool,
@@ -26,7 +28,7 @@ pub struct Line {
 }
 
 // Position and velocity of a car, and what limits them.
-#[derive(Drop)]
+#[derive(Clone, Copy)]
 pub struct Motion {
     pub position: f64,
     pub velocity: f64,
@@ -37,7 +39,7 @@ pub struct Motion {
 }
 
 // components/elevator.rs, ElevatorPhase
-#[derive(Drop)]
+#[derive(Clone, Copy)]
 pub enum ElevatorPhase {
     Idle,
     MovingToStop(u8),
@@ -49,7 +51,7 @@ pub enum ElevatorPhase {
 }
 
 // components/service_mode.rs, ServiceMode
-#[derive(Drop)]
+#[derive(Clone, Copy)]
 pub enum ServiceMode {
     Normal,
     Independent,
@@ -59,41 +61,41 @@ pub enum ServiceMode {
 }
 
 // The Rust's Option of a stop.
-#[derive(Drop)]
+#[derive(Clone, Copy)]
 pub enum StopOption {
     NoStop,
     Stop(u8),
 }
 
 // The Rust's Option of a car.
-#[derive(Drop)]
+#[derive(Clone, Copy)]
 pub enum CarOption {
     NoCar,
     OfCar(u8),
 }
 
 // The Rust's Option of a manual target velocity.
-#[derive(Drop)]
+#[derive(Clone, Copy)]
 pub enum SpeedOption {
     NoSpeed,
     Speed(f64),
 }
 
 // The Rust's Option of the tick at which a car may be repositioned again.
-#[derive(Drop)]
+#[derive(Clone, Copy)]
 pub enum TickOption {
     NoTick,
     AtTick(u64),
 }
 
 // An entry of a door command queue.
-#[derive(Drop)]
+#[derive(Clone, Copy)]
 pub struct QueuedCommand {
     pub command: DoorCommand,
 }
 
 // What a car's record says of it: its line, its motion and its door's times.
-#[derive(Drop)]
+#[derive(Clone, Copy)]
 pub struct CarPlan {
     pub line: u8,
     pub motion: Motion,
@@ -102,7 +104,7 @@ pub struct CarPlan {
 }
 
 // components/elevator.rs, Elevator, with its position, its destination queue and its reposition cooldown.
-#[derive(Drop)]
+#[derive(Clone, Copy)]
 pub struct Car {
     pub line: u8,
     pub phase: ElevatorPhase,
@@ -128,7 +130,7 @@ pub struct Car {
 }
 
 // components/rider.rs, RiderPhase
-#[derive(Drop)]
+#[derive(Clone, Copy)]
 pub enum RiderPhase {
     Waiting,
     Boarding(u8),
@@ -141,7 +143,7 @@ pub enum RiderPhase {
 }
 
 // A rider: the stop that its route goes to, its phase, and the car whose riders it is among.
-#[derive(Drop)]
+#[derive(Clone, Copy)]
 pub struct Rider {
     pub destination: StopOption,
     pub phase: RiderPhase,
@@ -149,20 +151,20 @@ pub struct Rider {
 }
 
 // The lamps (direction indicators) of a car on a linear line.
-#[derive(Drop)]
+#[derive(Clone, Copy)]
 pub struct Lamps {
     pub going_up: bool,
     pub going_down: bool,
 }
 
 // A car's queue of destinations.
-#[derive(Drop)]
+#[derive(Clone, Copy)]
 pub struct Queue {
     pub stops: [u8; 8],
     pub count: usize,
 }
 
-#[derive(Drop)]
+#[derive(Clone, Copy)]
 pub struct World {
     // the tables side by side, so that a copy of the world is one move of memory
     pub stops: [f64; 64],

@@ -1,6 +1,0 @@
--- `beside::doors::door_is_open` meets its contract. Assumes nothing.
-use Rattle.beside.proofs.doors.door_is_open.Statement.{statement}
-use Rattle.beside.proofs.doors.door_is_open.Tie as tie
-
-pub door_is_open_spec : {M : Type 1} → statement M
-door_is_open_spec = tie.close (tie.spec (λ c κs. tt) (λ c κs. tt) (λ c. rw c.before.door_of_lem.ensures at c.is_open.ensures))

@@ -1,0 +1,15 @@
+-- `fields::body::float_of` meets its contract. Assumes nothing.
+use mathlib.Core.Path.{refl}
+use Prim.Native.Nat.{◌+◌, ◌*◌, ◌^◌}
+use borrow.Author.Rules.{rules}
+use Rattle.fields.proofs.Floats.{nan_above, number_below}
+use Rattle.fields.proofs.body.float_of.Goals as goal
+
+pub returns-then-bits-gt9218868437227405312 : goal.returns-then-bits-gt9218868437227405312
+returns-then-bits-gt9218868437227405312 c = nan_above (c.args.high * 2 ^ 32 + c.args.low) c.if-bits-gt9218868437227405312.true
+
+pub float_from_bits-result : goal.float_from_bits-result
+float_from_bits-result c = number_below (c.args.high * 2 ^ 32 + c.args.low) c.if-bits-gt9218868437227405312.false
+
+pub returns : goal.returns
+returns c = refl

@@ -1,0 +1,15 @@
+-- `modes::set_manual_speed` meets its contract. Assumes nothing.
+use mathlib.Core.Path.{◌∙◌}
+use Rattle.world.specs.With.{with_car}
+use Rattle.world.specs.declared.Car.{Car}
+use Rattle.changes.specs.Changes.{accepted}
+use Rattle.changes.specs.Parts.{ordered}
+use Rattle.changes.proofs.Rows.{by_row_alone}
+use Rattle.modes.specs.Modes.{at_speed, set_manual_speed}
+use Rattle.modes.proofs.set_manual_speed.Goals as goal
+
+pub returns : goal.returns
+unfolding ordered set_manual_speed
+returns c =
+    let a = c.args in
+    by_row_alone a.world a.car (λ (x : Car). accepted (with_car a.world a.car (at_speed x a.speed))) (c.ordered.ensures ∙ rw (c.with_orders-next.ensures, c.row_of-row.ensures))

@@ -1,0 +1,38 @@
+-- `pieces::advance_on` meets its contract. Assumes nothing.
+use mathlib.Core.Path.{◌≡◌, refl}
+use Prim.Native.Nat.{◌-◌}
+use native.Mathlib.Nat.{sub-zero}
+use native.Mathlib.Omega.{arith}
+use lib.ListN.{take, length-take}
+use borrow.Author.Rules.{rules}
+use Rattle.pieces.proofs.Sizes.{words_few}
+use Rattle.pieces.proofs.Going.{advances}
+use Rattle.pieces.proofs.advance_on.Goals as goal
+
+pub returns : goal.returns
+returns c =
+    let s = c in
+    let a = s.args in
+    let m = c.at_most-end in
+    let r = c.play_bytes-played in
+    let k = c.close-closed in
+    let t = c.keep in
+    advances a.piece.now a.out.now r.new.1.1.1.0 r.new.1.1.1.1.0 k.new.1.1.1.0 t.new.0 m.result a.ended r.result k.result t.result
+    a.study
+    a.log.now
+    a.held
+    s.requires.2
+    m.ensures
+    (rw sub-zero at r.ensures)
+    k.ensures
+    t.ensures
+
+pub overflow_mul-used : goal.overflow_mul-used
+overflow_mul-used c = omega (arith, bytes-used c)
+
+-- GONE: bytes-used : tie.Need-overflow-sub-close
+-- bytes-used c =
+--     let s = c.before.before.before.before.before.before.before.before.before.before.before.before.before.before.before in
+--     let r = c.before.before.before.before.before.before.play-bytes in
+--     let m = c.before.before.before.before.before.before.before.before.before.before.before.at_most in
+--     omega (arith, r.ensures.within, words_few (take (m.result - 0) s.args.piece.now), length-take (m.result - 0) s.args.piece.now)

@@ -1,0 +1,72 @@
+-- `pieces::play_words` meets its contract. Assumes nothing.
+use mathlib.Core.Path.{◌≡◌, refl, sym, ◌∙◌}
+use mathlib.Core.List.{[]}
+use Prim.Native.Nat.{◌≤◌, ◌-◌, ◌+◌}
+use native.Mathlib.Omega.{arith}
+use lib.ListN.{length}
+use borrow.Author.Rules.{rules}
+use Rattle.log_writes.proofs.Writing.{wrote_length}
+use Rattle.study_text.specs.Text.{words_of}
+use Rattle.pieces.proofs.Going.{here, left, Going, begun, going, holds, stepped, fewer, turn, reached, rest_of}
+use Rattle.pieces.proofs.play_words.Goals as goal
+
+pub loop-over-init : goal.loop-over-init
+loop-over-init c =
+    let s = c in
+    let a = s.args in
+    (s.requires.0, omega arith, going a.ended a.piece.now a.out.now a.log.now (begun a.study) refl s.requires.1 s.requires.2)
+
+pub loop-over-preserved : goal.loop-over-preserved
+loop-over-preserved c =
+    let a = c.args in
+    let l = c.loop-over in
+    let s = holds l.made l.counts l.at l.over in
+    let r = c.turn-made in
+    let t = c.tell_answer-told in
+    let w = rest_of a.piece.now a.words.now l.from l.invariant.0 in
+    let o = rw w at r.ensures in
+    let g = turn a.ended a.piece.now l.log s l.from (here (begun a.study) a.log.now a.piece.now 0 []) a.out.now l.out
+    r.new.1.1.0
+    t.new.1.1.1.0
+    (holds r.result t.result.counts t.result.at t.result.refused)
+    t.result.used
+    l.invariant.2
+    (rw (← l.invariant.0, ← c.goes.ensures) c.loop-over-test.true)
+    o.log
+    (stepped _ r.result r.new.1.1.0 l.out t.new.1.1.1.0 l.counts l.at t.result o t.ensures) in
+    (l.invariant.0, rw l.invariant.0 g.within, g)
+
+pub overflow_add-from : goal.overflow_add-from
+overflow_add-from c = let h = c.well_formed.1.1.0.0 in omega (arith, h, (loop-again c).1)
+
+pub loop-over-smaller : goal.loop-over-smaller
+loop-over-smaller c =
+    let a = c.args in
+    let l = c.loop-over in
+    let s = holds l.made l.counts l.at l.over in
+    let r = c.turn-made in
+    let t = c.tell_answer-told in
+    fewer a.ended a.piece.now l.log s l.from
+    (holds r.result t.result.counts t.result.at t.result.refused)
+    t.result.used
+    l.out
+    t.new.1.1.1.0
+    (rw (← l.invariant.0, ← c.goes.ensures) c.loop-over-test.true)
+    l.invariant.2.within
+    (stepped _ r.result r.new.1.1.0 l.out t.new.1.1.1.0 l.counts l.at t.result (rw (rest_of a.piece.now a.words.now l.from l.invariant.0) at r.ensures) t.ensures)
+
+pub returns : goal.returns
+returns c =
+    let a = c.args in
+    let l = c.loop-over in
+    reached a.ended (here (begun a.study) a.log.now a.piece.now 0 []) a.piece.now a.out.now l.log l.out (holds l.made l.counts l.at l.over) l.from l.invariant.2
+    (rw (← l.invariant.0, ← c.goes.ensures) c.loop-over-test.false)
+
+pub slice_bounds-turn-count : goal.slice_bounds-turn-count
+slice_bounds-turn-count c = c.loop-over.invariant.1
+
+pub shape_of-log : goal.shape_of-log
+shape_of-log c = c.loop-over.invariant.2.lent ∙ sym c.requires.1
+
+pub shape_of-out : goal.shape_of-out
+shape_of-out c = wrote_length c.loop-over.invariant.2.wrote

@@ -1,0 +1,15 @@
+-- What the loops keep.
+use mathlib.Core.Path.{◌≡◌, sym, ◌∙◌}
+use Prim.Native.Nat.{◌+◌, ◌≤◌}
+use native.Mathlib.Omega.{arith}
+use borrow.Author.Rules.{rules}
+use borrow.Author.Tests.{not-true, not-false}
+use Rattle.sorted.specs.Sorted.{sorted_table}
+use Rattle.sorted.proofs.Insertion.{from_back, moved, placed, table_grows}
+use Rattle.sorted.proofs.insert.Given as goal
+
+abbrev pub invariant-loop-k : goal.invariant-loop-k
+invariant-loop-k l = (l.k ≤ l.i) × (from_back l.stops l.order l.i l.k ≡ sorted_table l.stops (l.i + 1))
+
+abbrev pub decreases-loop-k : goal.decreases-loop-k
+decreases-loop-k l = l.k

@@ -1,0 +1,24 @@
+-- `sorted::sorted_stops` meets its contract: the table holds the stops passed, sorted. Assumes nothing.
+use mathlib.Core.Path.{◌≡◌, refl}
+use Prim.Native.Nat.{◌≤◌, ◌-◌, min}
+use native.Mathlib.Omega.{arith}
+use borrow.Author.Rules.{rules}
+use Rattle.sorted.specs.Sorted.{sorted_stops, sorted_table}
+use Rattle.sorted.proofs.sorted_stops.Goals as goal
+
+pub loop-i-init : goal.loop-i-init
+unfolding sorted_stops
+loop-i-init c = (omega arith, refl)
+
+pub insert-requires : goal.insert-requires
+insert-requires c = (omega arith, c.loop-i.invariant.1)
+
+pub loop-i-preserved : goal.loop-i-preserved
+loop-i-preserved c = (omega arith, c.insert.ensures)
+
+pub returns : goal.returns
+returns c =
+    let b = c in
+    let n : b.at_most-n.result ≡ min b.args.stop_count 64 = b.at_most-n.ensures in
+    let e : c.loop-i.i ≡ b.at_most-n.result = omega arith in
+    rw (← n, ← e) c.loop-i.invariant.1

@@ -1,0 +1,17 @@
+-- `sound::calls_unloaded` meets its contract. Assumes nothing.
+use mathlib.Core.Path.{sym}
+use Prim.Native.Nat.{◌^◌}
+use native.Mathlib.Omega.{arith}
+use lib.Pow.{pow_mono}
+use borrow.Author.Rules.{rules}
+use borrow.Author.Tests.{lt-leb}
+use Rattle.call_sets.proofs.Bits.{bit_of}
+use Rattle.sound.proofs.calls_unloaded.Goals as goal
+
+pub returns-then-stops-ge64 : goal.returns-then-stops-ge64
+returns-then-stops-ge64 c =
+    let stops = c.args.stops in
+    sym (lt-leb (2 ^ stops) c.args.calls (omega (arith, pow_mono {i = 64} {j = stops} c.if-stops-ge64.true)))
+
+pub returns : goal.returns
+returns c = rw (bit_of c.args.stops c.if-stops-ge64.false)

@@ -1,0 +1,20 @@
+-- `sound::riders_broken` meets its contract. Assumes nothing.
+use mathlib.Core.Path.{◌≡◌, refl}
+use Prim.Native.Nat.{◌≤◌, ◌-◌}
+use native.Mathlib.Numerals.{add-one}
+use native.Mathlib.Omega.{arith}
+use Rattle.world.specs.World.{rider_at}
+use Rattle.sound_rows.specs.Rows.{any_to, rider_broken}
+use borrow.Author.Rules.{rules}
+use Rattle.sound.proofs.riders_broken.Goals as goal
+
+pub loop-i-init : goal.loop-i-init
+unfolding any_to
+loop-i-init c = (search rules, refl)
+
+pub loop-i-preserved : goal.loop-i-preserved
+unfolding any_to
+loop-i-preserved c = (search rules, rw (add-one, ← c.loop-i.invariant.1, c.rider_broken-found.ensures))
+
+pub returns : goal.returns
+returns c = let e : c.loop-i.i ≡ c.args.count = omega arith in rw e at c.loop-i.invariant.1

@@ -1,0 +1,15 @@
+-- What the loops keep.
+use mathlib.Core.Path.{◌≡◌, refl}
+use Prim.Native.Nat.{◌≤◌, ◌-◌}
+use native.Mathlib.Numerals.{add-one}
+use native.Mathlib.Omega.{arith}
+use Rattle.world.specs.World.{rider_at}
+use Rattle.sound_rows.specs.Rows.{any_to, rider_broken}
+use borrow.Author.Rules.{rules}
+use Rattle.sound.proofs.riders_broken.Given as goal
+
+abbrev pub invariant-loop-i : goal.invariant-loop-i
+invariant-loop-i l = (l.i ≤ l.count) × (l.found ≡ any_to (λ k. rider_broken l.stops l.cars (rider_at l.riders k)) l.i)
+
+abbrev pub decreases-loop-i : goal.decreases-loop-i
+decreases-loop-i l = l.count - l.i

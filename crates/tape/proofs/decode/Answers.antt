@@ -1,0 +1,85 @@
+-- `tape::decode` meets its contract. Assumes nothing.
+use mathlib.Core.Path.{◌≡◌, refl, ap, sym, ◌∙◌}
+use mathlib.Core.List.{List, [], ◌∷◌}
+use Prim.Native.Nat.{ℕ}
+use native.Mathlib.Omega.{arith}
+use lib.ListN.{length}
+use borrow.Author.Rules.{rules}
+use borrow.Author.Tests.{eq-eqb, ne_eqb}
+use Rattle.tape_records.specs.Answers.{refused}
+use Rattle.tape.specs.Tape.{Kind, kind_in, kinds, record_of, decoded}
+use Rattle.world.specs.declared.refusal.Refusal.TheVariants.{UnknownKind}
+use Rattle.tape.proofs.decode.Goals as goal
+use Rattle.tape.proofs.decode.Goals.{After-head_of-head}
+
+pub returns-then-words-eq0 : goal.returns-then-words-eq0
+unfolding decoded
+returns-then-words-eq0 c = rw (eq-eqb (length c.args.words.now) 0 (omega arith)) c.refused.ensures
+
+-- no kind of a list is k, which is what the last arm of a match knows
+abbrev NoneOf : ℕ → List Kind → Type 0 → Type 0
+NoneOf k [] A = A
+NoneOf k (t ∷ ts) A = NoneOf k ts (A × (k ≡ t.number → ⊥))
+
+before_all : (k : ℕ) (ts : List Kind) (A : Type 0) → NoneOf k ts A → A
+before_all k [] A r = r
+before_all k (t ∷ ts) A r = (before_all k ts (A × (k ≡ t.number → ⊥)) r).0
+
+unknown : (k : ℕ) (ts : List Kind) (A : Type 0) → NoneOf k ts A → refused UnknownKind ≡ kind_in k ts
+unknown k [] A r = refl
+unknown k (t ∷ ts) A r =
+    rw (ne_eqb k t.number (before_all k ts (A × (k ≡ t.number → ⊥)) r).1) (unknown k ts (A × (k ≡ t.number → ⊥)) r)
+
+-- past the first word
+module _ (c : After-head_of-head) where
+  abbrev words : List ℕ
+  words = c.before.before.before.before.args.words.now
+
+  whole : kind_in c.head_of.result.kind (kinds c.head_of.result words) ≡ decoded words
+  unfolding decoded record_of
+  whole = rw (ne_eqb _ _ c.before.before.if1.false, c.head_of.ensures)
+
+known : (k : ℕ) (c : After-head_of-head) → c.head_of.result.kind ≡ k → kind_in k (kinds c.head_of.result (words c)) ≡ decoded (words c)
+known k c e = ap (λ (j : ℕ). kind_in j (kinds c.head_of.result (words c))) (sym e) ∙ whole c
+
+pub returns-in-1 : goal.returns-in-1
+returns-in-1 c = c.decode_line.ensures ∙ known 1 c.before.before c.in-1.is
+
+pub returns-in-2 : goal.returns-in-2
+returns-in-2 c = c.decode_stop.ensures ∙ known 2 c.before.before c.in-2.is
+
+pub returns-in-3 : goal.returns-in-3
+returns-in-3 c = c.decode_car.ensures ∙ known 3 c.before.before c.in-3.is
+
+pub returns-in-4 : goal.returns-in-4
+returns-in-4 c = c.decode_rider.ensures ∙ known 4 c.before.before c.in-4.is
+
+pub returns-in-5 : goal.returns-in-5
+returns-in-5 c = c.decode_send.ensures ∙ known 5 c.before.before c.in-5.is
+
+pub returns-in-6 : goal.returns-in-6
+returns-in-6 c = c.decode_mode.ensures ∙ known 6 c.before.before c.in-6.is
+
+pub returns-in-7 : goal.returns-in-7
+returns-in-7 c = c.decode_manual_speed.ensures ∙ known 7 c.before.before c.in-7.is
+
+pub returns-in-8 : goal.returns-in-8
+returns-in-8 c = c.decode_door_command.ensures ∙ known 8 c.before.before c.in-8.is
+
+pub returns-in-9 : goal.returns-in-9
+returns-in-9 c = c.decode_hall_call.ensures ∙ known 9 c.before.before c.in-9.is
+
+pub returns-in-10 : goal.returns-in-10
+returns-in-10 c = c.decode_destination.ensures ∙ known 10 c.before.before c.in-10.is
+
+pub returns-in-11 : goal.returns-in-11
+returns-in-11 c = c.decode_enable.ensures ∙ known 11 c.before.before c.in-11.is
+
+pub returns-in-12 : goal.returns-in-12
+returns-in-12 c = c.decode_tick.ensures ∙ known 12 c.before.before c.in-12.is
+
+pub returns-in-13 : goal.returns-in-13
+returns-in-13 c = c.decode_start.ensures ∙ known 13 c.before.before c.in-13.is
+
+pub returns-in_default : goal.returns-in_default
+returns-in_default c = c.refused-in_default.ensures ∙ unknown _ (kinds c.head_of-head.result (words c.before.before)) Unit c.in_default.rest ∙ whole c.before.before

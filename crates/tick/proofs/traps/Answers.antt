@@ -1,0 +1,51 @@
+-- `tick::traps` meets its contract: every example computes. Assumes nothing.
+use mathlib.Core.Path.{refl}
+use lib.Ieee.{of_bits, add, sub, mul, div, rem, neg, lt, le, eq, is_nan}
+use Rattle.float.specs.Float.{abs, signum, is_finite, max, rem_euclid}
+use Rattle.motion.specs.Cyclic.{wrap_position, forward_distance}
+use Rattle.motion.specs.Movement.{tick_movement, tick_movement_cyclic, headway_clamp_target}
+use Rattle.velocity.specs.Velocity.{decelerated, accelerated, new_velocity}
+use Rattle.call_sets.specs.Calls.{called}
+use Rattle.world.specs.World.{empty_world}
+use Rattle.next_stop.specs.NextStop.{loop_next_stop_for_car}
+use Rattle.leader.specs.Leader.{leader_to, loop_leader_pos}
+use Rattle.sorted.specs.Sorted.{position_before, stop_before, inserted, sorted_stops}
+use Rattle.log_words.specs.Words.{word, tick_word}
+use Rattle.steps.specs.Steps.{line_of, run_to, run_cars}
+use Rattle.laws.specs.Numbers.{plus}
+use Rattle.arrival.specs.Arrival.{riders_to, queued_to, direction_from_remaining_work, popped}
+use Rattle.movement_system.specs.Passing.{count_in, start_of, end_of, between, unless_target, without, emit_range, passing_words}
+use Rattle.movement_system.specs.Movement.{move_of, moved}
+use Rattle.door_commands.specs.Commands.{work_to, work_words_to, process_door_commands, command_words}
+use Rattle.doors_system.specs.Doors.{door_of, doored, doors_world, doors_words}
+use Rattle.hall_calls.specs.Clearing.{clear_word, clear_to, clear_words_to}
+use Rattle.tick.specs.Tick.{tick_world, tick_words}
+use Rattle.tick.specs.Room.{room_of}
+use Rattle.tick.specs.Traps.{Traps, world_after_ticks, words_of_ticks}
+use Rattle.tick.proofs.traps.Goals as goal
+
+traps : Traps
+unfolding world_after_ticks words_of_ticks room_of empty_world tick_world tick_words moved move_of doors_world doors_words doored door_of clear_word clear_to clear_words_to work_to work_words_to process_door_commands command_words count_in start_of end_of between unless_target without emit_range passing_words riders_to queued_to direction_from_remaining_work popped plus line_of run_to run_cars word tick_word position_before stop_before inserted sorted_stops leader_to loop_leader_pos loop_next_stop_for_car called decelerated accelerated new_velocity tick_movement tick_movement_cyclic headway_clamp_target wrap_position forward_distance abs signum is_finite max rem_euclid of_bits add sub mul div rem neg lt le eq is_nan
+traps = record {
+  plus_zero = refl;
+  minus_zero = refl;
+  goes_on = refl;
+  is_there = refl;
+  ends_on_stop = refl;
+  neither_tick = refl;
+  leads = refl;
+  follows = refl;
+  held_arrives = refl;
+  door_steps = refl;
+  not_early = refl;
+  first = refl;
+  second = refl;
+  writes_none = refl;
+  seam = refl;
+  output = refl;
+  moves = refl;
+  room = refl;
+}
+
+pub returns : goal.returns
+returns c = (refl, traps)
