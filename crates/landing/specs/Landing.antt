@@ -38,9 +38,9 @@ effective_target (At leader) pos target headway circumference = headway_clamp_ta
 
 -- run, `result`
 abbrev pub result_by : LineKind → LeaderOption → Motion → Float → Float → Float → MovementResult
-result_by Linear leader m speed target dt = tick_movement m.position m.velocity target speed m.acceleration m.deceleration dt
-result_by (Loop circumference headway) leader m speed target dt =
-    tick_movement_cyclic m.position m.velocity (effective_target leader m.position target headway circumference) speed m.acceleration
+result_by Linear ahead m speed target dt = tick_movement m.position m.velocity target speed m.acceleration m.deceleration dt
+result_by (Loop circumference headway) ahead m speed target dt =
+    tick_movement_cyclic m.position m.velocity (effective_target ahead m.position target headway circumference) speed m.acceleration
     m.deceleration dt circumference
 
 -- manual_target_velocity.unwrap_or(0.0)
@@ -64,8 +64,8 @@ behind (At leader) old wrapped velocity headway circumference =
 
 -- tick_manual, from `raw_new_pos` on
 abbrev pub driven_by : LineKind → LeaderOption → Float → Float → Float → MovementResult
-driven_by Linear leader old raw velocity = driven_to raw velocity
-driven_by (Loop circumference headway) leader old raw velocity = behind leader old (wrap_position raw circumference) velocity headway circumference
+driven_by Linear ahead old raw velocity = driven_to raw velocity
+driven_by (Loop circumference headway) ahead old raw velocity = behind ahead old (wrap_position raw circumference) velocity headway circumference
 
 -- tick_manual, `new_vel` before the loop's landing
 abbrev pub manual_speed : Car → Float → Float
@@ -79,7 +79,7 @@ driven kind leader c dt = driven_by kind leader c.motion.position (fma (manual_s
 
 -- a car's landing
 abbrev pub landing : Trip → LineKind → LeaderOption → Car → List Float → Float → MovementResult
-landing Rests kind leader c stops dt = driven_to c.motion.position c.motion.velocity
-landing Drives kind leader c stops dt = driven kind leader c dt
-landing (GoesTo s) kind leader c stops dt = result_by kind leader c.motion (max_speed_of c) (stop_at stops s) dt
-landing (Repositions s) kind leader c stops dt = result_by kind leader c.motion (max_speed_of c) (stop_at stops s) dt
+landing Rests kind ahead c stops dt = driven_to c.motion.position c.motion.velocity
+landing Drives kind ahead c stops dt = driven kind ahead c dt
+landing (GoesTo s) kind ahead c stops dt = result_by kind ahead c.motion (max_speed_of c) (stop_at stops s) dt
+landing (Repositions s) kind ahead c stops dt = result_by kind ahead c.motion (max_speed_of c) (stop_at stops s) dt

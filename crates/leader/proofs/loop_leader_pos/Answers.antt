@@ -1,12 +1,12 @@
 -- `leader::loop_leader_pos` meets its contract: what is held is the leader among the cars passed. Assumes nothing.
 use mathlib.Core.Path.{◌≡◌, sym, ◌∙◌}
-use mathlib.Core.Logic.{⊎_elim}
 use Prim.Native.Nat.{◌≤◌, ◌-◌, min}
 use native.Mathlib.Omega.{arith}
 use borrow.Author.Rules.{rules}
 use Rattle.leader.specs.Leader.{leader_to, loop_leader_pos}
 use Rattle.leader.proofs.Lead.{Held, nobody, taken, kept, passed, pos_held}
 use Rattle.leader.proofs.loop_leader_pos.Goals as goal
+use Rattle.leader.proofs.loop_leader_pos.Goals.{then-is_other+then-is_nearer, then-is_other+else-is_nearer, else-is_other}
 
 pub loop-i-init : goal.loop-i-init
 unfolding leader_to
@@ -14,17 +14,15 @@ loop-i-init c = (omega arith, nobody)
 
 pub loop-i-preserved : goal.loop-i-preserved
 loop-i-preserved c =
-    let b = c in
-    let a = b.args in
-    let l = b.loop-i in
+    let a = c.args in
+    let l = c.loop-i in
     let o = sym c.is_other.ensures in (
       omega arith,
-      ⊎_elim
-          (λ w. rw (w.4, w.5, w.6, w.1.ensures) (taken a.me a.line l.i l.invariant.1 (o ∙ w.0.taken) (rw w.1.ensures at (sym w.2.ensures ∙ w.3.taken))))
-          (⊎_elim
-          (λ w. rw (w.4, w.5, w.6) (kept a.me a.line l.i l.invariant.1 (o ∙ w.0.taken) (rw w.1.ensures at (sym w.2.ensures ∙ w.3.left))))
-          (λ w. rw (w.1, w.2, w.3) (passed a.me a.line l.i l.invariant.1 (o ∙ w.0.left))))
-          c.if-is_other.branch,
+      elim c.if-is_other.branch [
+        then-is_other+then-is_nearer w ↦ rw (w.found-is, w.nearest-is, w.position-is, w.forward_distance-distance.ensures) (taken a.me a.line l.i l.invariant.1 (o ∙ w.if-is_other.true) (rw w.forward_distance-distance.ensures at (sym w.is_nearer.ensures ∙ w.if-is_nearer.true)))
+      | then-is_other+else-is_nearer w ↦ rw (w.found-is, w.nearest-is, w.position-is) (kept a.me a.line l.i l.invariant.1 (o ∙ w.if-is_other.true) (rw w.forward_distance-distance.ensures at (sym w.is_nearer.ensures ∙ w.if-is_nearer.false)))
+      | else-is_other w ↦ rw (w.found-is, w.nearest-is, w.position-is) (passed a.me a.line l.i l.invariant.1 (o ∙ w.if-is_other.false))
+      ],
     )
 
 pub returns-then-found : goal.returns-then-found

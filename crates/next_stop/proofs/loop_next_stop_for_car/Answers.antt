@@ -27,20 +27,18 @@ pub returns-then-line : goal.returns-then-line
 unfolding loop_next_stop_for_car
 returns-then-line c =
     let b = c in
-    let k = b.kind-1 in
     let a = b.args in
     let f = c.loop_next_stop_forward in
-    listed _ a.t1 a.stops.now a.position k.given.0.0 k.given.0.1.0 f.result k.given.1 b.if-line.true f.ensures
+    listed _ a.line a.stops.now a.position c.in-Loop.circumference c.in-Loop.min_headway f.result c.in-Loop.is b.if-line.true f.ensures
 
 pub returns-in-Linear : goal.returns-in-Linear
 unfolding loop_next_stop_for_car
 returns-in-Linear c =
     let a = c.args in
-    sym (linear _ a.t1 a.stops.now a.position c.in-Linear.is)
+    sym (linear _ a.line a.stops.now a.position c.in-Linear.is)
 
 pub returns-else-line : goal.returns-else-line
 unfolding loop_next_stop_for_car
 returns-else-line c =
-    let k = c.kind-1 in
     let a = c.args in
-    sym (unlisted _ a.t1 a.stops.now a.position k.given.0.0 k.given.0.1.0 k.given.1 c.if-line.false)
+    sym (unlisted _ a.line a.stops.now a.position c.in-Loop.circumference c.in-Loop.min_headway c.in-Loop.is c.if-line.false)

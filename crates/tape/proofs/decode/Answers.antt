@@ -82,4 +82,4 @@ pub returns-in-13 : goal.returns-in-13
 returns-in-13 c = c.decode_start.ensures ∙ known 13 c.before.before c.in-13.is
 
 pub returns-in_default : goal.returns-in_default
-returns-in_default c = c.refused-in_default.ensures ∙ unknown _ (kinds c.head_of-head.result (words c.before.before)) Unit c.in_default.rest ∙ whole c.before.before
+returns-in_default c = c.refused-in_default.ensures ∙ unknown _ (kinds c.head_of-head.result (words c.before.before)) Unit c.in_default.in_default-own.rest ∙ whole c.before.before

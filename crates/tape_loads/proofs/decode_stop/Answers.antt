@@ -2,4 +2,4 @@
 use Rattle.tape_loads.proofs.decode_stop.Goals as goal
 
 pub returns : goal.returns
-returns c = rw (c.checked.ensures, c.outside_size-float_outside.ensures, c.Float_at.ensures)
+returns c = rw (c.checked.ensures, c.outside_size-float_outside.ensures, c.float_at-position.ensures)

@@ -4,4 +4,4 @@ use Rattle.tape_loads.proofs.line_floats_outside.Goals as goal
 
 pub returns : goal.returns
 unfolding line_floats_outside
-returns c = rw (c.outside_from_zero.ensures, c.float_at-2.ensures, c.outside_above_zero.ensures, c.Float_at.ensures)
+returns c = rw (c.outside_from_zero.ensures, c.float_at-2.ensures, c.outside_above_zero.ensures, c.float_at.ensures)

@@ -7,4 +7,4 @@ pub returns-then-s-eq0 : goal.returns-then-s-eq0
 returns-then-s-eq0 c = unfold line_kind_of in rw (eq-eqb _ _ c.if-s-eq0.true)
 
 pub returns : goal.returns
-returns c = unfold line_kind_of in rw (ne_eqb _ _ c.if-s-eq0.false, c.float_at-2.ensures, c.Float_at.ensures)
+returns c = unfold line_kind_of in rw (ne_eqb _ _ c.if-s-eq0.false, c.float_at-2.ensures, c.float_at.ensures)

@@ -24,4 +24,4 @@ pub returns-in-6 : goal.returns-in-6
 returns-in-6 c = rw c.in-6.is
 
 pub returns-in_default : goal.returns-in_default
-returns-in_default c = let k = c.args.phase in let r = c.in_default.rest in rw (ne_eqb k 0 r.0.0.0.0.0.0.1, ne_eqb k 1 r.0.0.0.0.0.1, ne_eqb k 2 r.0.0.0.0.1, ne_eqb k 3 r.0.0.0.1, ne_eqb k 4 r.0.0.1, ne_eqb k 5 r.0.1, ne_eqb k 6 r.1)
+returns-in_default c = let k = c.args.phase in let r = c.in_default.in_default-own.rest in rw (ne_eqb k 0 r.0.0.0.0.0.0.1, ne_eqb k 1 r.0.0.0.0.0.1, ne_eqb k 2 r.0.0.0.0.1, ne_eqb k 3 r.0.0.0.1, ne_eqb k 4 r.0.0.1, ne_eqb k 5 r.0.1, ne_eqb k 6 r.1)

@@ -12,4 +12,4 @@ pub returns-in-2 : goal.returns-in-2
 returns-in-2 c = rw c.in-2.is
 
 pub returns-in_default : goal.returns-in_default
-returns-in_default c = let k = c.args.s in let r = c.in_default.rest in rw (ne_eqb k 0 r.0.0.1, ne_eqb k 1 r.0.1, ne_eqb k 2 r.1)
+returns-in_default c = let k = c.args.s in let r = c.in_default.in_default-own.rest in rw (ne_eqb k 0 r.0.0.1, ne_eqb k 1 r.0.1, ne_eqb k 2 r.1)

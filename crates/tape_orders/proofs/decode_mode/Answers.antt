@@ -2,4 +2,4 @@
 use Rattle.tape_orders.proofs.decode_mode.Goals as goal
 
 pub returns : goal.returns
-returns c = rw (c.checked.ensures, c.Mode_of.ensures)
+returns c = rw (c.checked.ensures, c.mode_of-mode.ensures)
