@@ -18,7 +18,7 @@ loop-i-preserved c =
       search rules,
       within l.made.world a.words.now l.log l.used o l.invariant.1 u,
       stays l.made.world a.words.now l.log l.used o ∙ l.invariant.2,
-      again l.made.world a.words.now l.log l.used o a.log.now l.i l.invariant.3 u c.written_of.ensures c.wrapping_add_u64-written.ensures,
+      again l.made.world a.words.now l.log l.used o a.log.now l.i l.invariant.3 u c.written_of.ensures c.wrapping_add_u64-written.ensures.value,
     )
 
 pub overflow_add-used : goal.overflow_add-used

@@ -223,7 +223,7 @@ returns c =
     let x = doored_after (dt_of m) w k r.0 r.1 in
     is_whole w _ _ (whole (judging m)) (reading m).decode.ensures
     (tick_taken_lem w _ _ (ticking m).read3.given.1 (sym (asking m).before.before.take-tick.ensures ∙ (asking m).enum_told.given.1) refl
-    (rw c.wrapping_add_u64-2.ensures (ap ticked x.0)) (also (telling m).emit.ensures x.1))
+    (rw c.wrapping_add_u64-2.ensures.value (ap ticked x.0)) (also (telling m).emit.ensures x.1))
 
 pub offset_bounds-w-i-then-is_trip : goal.offset_bounds-w-i-then-is_trip
 offset_bounds-w-i-then-is_trip c = search (rules, low c)

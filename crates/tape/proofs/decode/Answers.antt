@@ -31,55 +31,51 @@ unknown k (t ∷ ts) A r =
     rw (ne_eqb k t.number (before_all k ts (A × (k ≡ t.number → ⊥)) r).1) (unknown k ts (A × (k ≡ t.number → ⊥)) r)
 
 -- past the first word
-module _ (c : After-head_of-head) where
-  abbrev words : List ℕ
-  words = c.before.before.before.before.args.words.now
+whole : (c : After-head_of-head) → kind_in c.head_of-head.result.kind (kinds c.head_of-head.result c.args.words.now) ≡ decoded c.args.words.now
+unfolding decoded record_of
+whole c = rw (ne_eqb _ _ c.if-words-eq0.false, c.head_of-head.ensures)
 
-  whole : kind_in c.head_of.result.kind (kinds c.head_of.result words) ≡ decoded words
-  unfolding decoded record_of
-  whole = rw (ne_eqb _ _ c.before.before.if1.false, c.head_of.ensures)
-
-known : (k : ℕ) (c : After-head_of-head) → c.head_of.result.kind ≡ k → kind_in k (kinds c.head_of.result (words c)) ≡ decoded (words c)
-known k c e = ap (λ (j : ℕ). kind_in j (kinds c.head_of.result (words c))) (sym e) ∙ whole c
+known : (k : ℕ) (c : After-head_of-head) → c.head_of-head.result.kind ≡ k → kind_in k (kinds c.head_of-head.result c.args.words.now) ≡ decoded c.args.words.now
+known k c e = ap (λ (j : ℕ). kind_in j (kinds c.head_of-head.result c.args.words.now)) (sym e) ∙ whole c
 
 pub returns-in-1 : goal.returns-in-1
-returns-in-1 c = c.decode_line.ensures ∙ known 1 c.before.before c.in-1.is
+returns-in-1 c = c.decode_line.ensures ∙ known 1 (goal.at.returns-in-1 c).After-head_of-head c.in-1.is
 
 pub returns-in-2 : goal.returns-in-2
-returns-in-2 c = c.decode_stop.ensures ∙ known 2 c.before.before c.in-2.is
+returns-in-2 c = c.decode_stop.ensures ∙ known 2 (goal.at.returns-in-2 c).After-head_of-head c.in-2.is
 
 pub returns-in-3 : goal.returns-in-3
-returns-in-3 c = c.decode_car.ensures ∙ known 3 c.before.before c.in-3.is
+returns-in-3 c = c.decode_car.ensures ∙ known 3 (goal.at.returns-in-3 c).After-head_of-head c.in-3.is
 
 pub returns-in-4 : goal.returns-in-4
-returns-in-4 c = c.decode_rider.ensures ∙ known 4 c.before.before c.in-4.is
+returns-in-4 c = c.decode_rider.ensures ∙ known 4 (goal.at.returns-in-4 c).After-head_of-head c.in-4.is
 
 pub returns-in-5 : goal.returns-in-5
-returns-in-5 c = c.decode_send.ensures ∙ known 5 c.before.before c.in-5.is
+returns-in-5 c = c.decode_send.ensures ∙ known 5 (goal.at.returns-in-5 c).After-head_of-head c.in-5.is
 
 pub returns-in-6 : goal.returns-in-6
-returns-in-6 c = c.decode_mode.ensures ∙ known 6 c.before.before c.in-6.is
+returns-in-6 c = c.decode_mode.ensures ∙ known 6 (goal.at.returns-in-6 c).After-head_of-head c.in-6.is
 
 pub returns-in-7 : goal.returns-in-7
-returns-in-7 c = c.decode_manual_speed.ensures ∙ known 7 c.before.before c.in-7.is
+returns-in-7 c = c.decode_manual_speed.ensures ∙ known 7 (goal.at.returns-in-7 c).After-head_of-head c.in-7.is
 
 pub returns-in-8 : goal.returns-in-8
-returns-in-8 c = c.decode_door_command.ensures ∙ known 8 c.before.before c.in-8.is
+returns-in-8 c = c.decode_door_command.ensures ∙ known 8 (goal.at.returns-in-8 c).After-head_of-head c.in-8.is
 
 pub returns-in-9 : goal.returns-in-9
-returns-in-9 c = c.decode_hall_call.ensures ∙ known 9 c.before.before c.in-9.is
+returns-in-9 c = c.decode_hall_call.ensures ∙ known 9 (goal.at.returns-in-9 c).After-head_of-head c.in-9.is
 
 pub returns-in-10 : goal.returns-in-10
-returns-in-10 c = c.decode_destination.ensures ∙ known 10 c.before.before c.in-10.is
+returns-in-10 c = c.decode_destination.ensures ∙ known 10 (goal.at.returns-in-10 c).After-head_of-head c.in-10.is
 
 pub returns-in-11 : goal.returns-in-11
-returns-in-11 c = c.decode_enable.ensures ∙ known 11 c.before.before c.in-11.is
+returns-in-11 c = c.decode_enable.ensures ∙ known 11 (goal.at.returns-in-11 c).After-head_of-head c.in-11.is
 
 pub returns-in-12 : goal.returns-in-12
-returns-in-12 c = c.decode_tick.ensures ∙ known 12 c.before.before c.in-12.is
+returns-in-12 c = c.decode_tick.ensures ∙ known 12 (goal.at.returns-in-12 c).After-head_of-head c.in-12.is
 
 pub returns-in-13 : goal.returns-in-13
-returns-in-13 c = c.decode_start.ensures ∙ known 13 c.before.before c.in-13.is
+returns-in-13 c = c.decode_start.ensures ∙ known 13 (goal.at.returns-in-13 c).After-head_of-head c.in-13.is
 
 pub returns-in_default : goal.returns-in_default
-returns-in_default c = c.refused-in_default.ensures ∙ unknown _ (kinds c.head_of-head.result (words c.before.before)) Unit c.in_default.in_default-own.rest ∙ whole c.before.before
+returns-in_default c = c.refused-in_default.ensures ∙ unknown _ (kinds c.head_of-head.result c.args.words.now) Unit c.in_default.in_default-own.rest ∙ whole (goal.at.returns-in_default c).After-head_of-head
