@@ -73,11 +73,11 @@ module _ {l l' : List ℕ} {at : ℕ} {r : Turned} where
       ⊎_elim (λ e. rw (no_work c a u e, no_words c a u i e) (rw (no_work c a traversing e, no_words c a traversing i e) at h)) (λ e. rw (← e) h) k
 
   -- by the line that was read, and by who was found on the threshold, if anybody was looked for
-  pub turn_on : (w : World) (i : ℕ) (c : Car) (line : Line) (traversing : Bool) → line ≡ line_of w.lines c.line
+  pub turn_on_lem : (w : World) (i : ℕ) (c : Car) (line : Line) (traversing : Bool) → line ≡ line_of w.lines c.line
       → (c.command_count ≡ 0) ⊎ (traversing ≡ has_rider_traversing w.riders w.rider_count i)
       → Turns (door_turn i c (at_stop line w.stops w.stop_count c.motion.position) traversing (loop_next_stop_for_car line w.stops c.motion.position)) l at l' r
       → Turns (turn_on w i c (line_of w.lines c.line)) l at l' r
-  turn_on w i c line traversing f k h = asked i c _ traversing _ _ k (rw f at h)
+  turn_on_lem w i c line traversing f k h = asked i c _ traversing _ _ k (rw f at h)
 
   -- it is the car's turn
   by : (w : World) (t : Turn) → Turns t l at l' r → step_by w t ≡ step_of w r.car t.words r.opened

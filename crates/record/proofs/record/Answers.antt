@@ -14,7 +14,7 @@ use Rattle.steps.specs.declared.JustOpened.{JustOpened}
 use Rattle.laws.specs.Numbers.{plus}
 use Rattle.sorted.specs.Sorted.{sorted_table}
 use Rattle.doors_system.specs.Doors.{door_of}
-use Rattle.doors_system.proofs.Running.{Runs, same, more, turn_on, door_of_lem, passed, ended}
+use Rattle.doors_system.proofs.Running.{Runs, same, more, turn_on_lem, door_of_lem, passed, ended}
 use Rattle.movement_system.specs.Movement.{move_of}
 use Rattle.movement_system.proofs.Moving.{Moves, stops_kept, cars_kept, calls_kept, cleared, doored_after, comes_in, goes_on_lem, stays}
 use Rattle.tick.specs.Tick.{ticked, tick_world, tick_words}
@@ -193,7 +193,7 @@ loop-i-3-preserved c =
           (λ u.
           let k = ⊎_elim (λ v. inr (v.3 ∙ v.2.ensures)) (λ v. inl v.0.left) u.4.came in
           let t = u.8 in
-          let h = turn_on w.w w.i (car_at w.w.cars w.i) _ _ u.2.ensures k t.ensures in
+          let h = turn_on_lem w.w w.i (car_at w.w.cars w.i) _ _ u.2.ensures k t.ensures in
           same (more (step_of w.w t.result.car _ t.result.opened) w.invariant.1 (door_of_lem w.w w.i h) h.wrote) u.13 u.14 u.16 u.15)
           (λ u. same (passed w.invariant.1 (omega (arith, test, w.invariant.2)) (sym c.has_turn.ensures ∙ u.0.left)) u.1 u.2 u.4 u.3)
           c.if-has_turn.branch,

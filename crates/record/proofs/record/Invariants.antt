@@ -14,7 +14,7 @@ use Rattle.steps.specs.declared.JustOpened.{JustOpened}
 use Rattle.laws.specs.Numbers.{plus}
 use Rattle.sorted.specs.Sorted.{sorted_table}
 use Rattle.doors_system.specs.Doors.{door_of}
-use Rattle.doors_system.proofs.Running.{Runs, same, more, turn_on, door_of_lem, passed, ended}
+use Rattle.doors_system.proofs.Running.{Runs, same, more, turn_on_lem, door_of_lem, passed, ended}
 use Rattle.movement_system.specs.Movement.{move_of}
 use Rattle.movement_system.proofs.Moving.{Moves, stops_kept, cars_kept, calls_kept, cleared, doored_after, comes_in, goes_on_lem, stays}
 use Rattle.tick.specs.Tick.{ticked, tick_world, tick_words}

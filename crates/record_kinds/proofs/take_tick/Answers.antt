@@ -13,7 +13,7 @@ use Rattle.changes.specs.declared.Taken.TheVariants.{Accepted, Refused}
 use Rattle.tick.specs.Room.{room_for}
 use Rattle.record_kinds.specs.Kinds.{tick_taken}
 use Rattle.record_kinds.proofs.take_tick.Goals as goal
-use Rattle.record_kinds.proofs.take_tick.Goals.{After-at_most-2, Start}
+use Rattle.record_kinds.proofs.take_tick.Goals.{After-at_most-2}
 
 -- the room fits a machine number
 small : (cars stops : ℕ) → cars ≤ 16 → stops ≤ 64 → cars * (stops + 14) ≤ 16 * 78
@@ -22,18 +22,11 @@ small cars stops h k = mul-le-mul {n₁ = cars} {m₁ = stops + 14} {n₂ = 16} 
 as_asked : {a b : ℕ} (cars stops : ℕ) → a ≡ min cars 16 → b ≡ min stops 64 → a * (b + 14) + 1 ≡ room_for cars stops
 as_asked cars stops p q = rw (p, q)
 
-module _ (c : After-at_most-2) where
-  abbrev cars : ℕ
-  cars = c.before.at_most.result
+fits : (c : After-at_most-2) → c.at_most.result * (c.at_most-2.result + 14) ≤ 16 * 78
+fits c = small c.at_most.result c.at_most-2.result (omega (arith, c.at_most.ensures)) (omega (arith, c.at_most-2.ensures))
 
-  abbrev stops : ℕ
-  stops = c.at_most2.result
-
-  fits : cars * (stops + 14) ≤ 16 * 78
-  fits = small cars stops (omega (arith, c.before.at_most.ensures)) (omega (arith, c.at_most2.ensures))
-
-  room : cars * (stops + 14) + 1 ≡ room_for c.before.before.before.before.args.cars c.before.before.before.before.args.stops
-  room = as_asked _ _ c.before.at_most.ensures c.at_most2.ensures
+room : (c : After-at_most-2) → c.at_most.result * (c.at_most-2.result + 14) + 1 ≡ room_for c.args.cars c.args.stops
+room c = as_asked _ _ c.at_most.ensures c.at_most-2.ensures
 
 pub returns-then-not-started : goal.returns-then-not-started
 unfolding tick_taken
@@ -44,25 +37,23 @@ unfolding tick_taken
 returns-then-ticks-ge268435456 c = rw (c.if-not-started.false, le-leb (2 ^ 28) c.args.ticks c.if-ticks-ge268435456.true)
 
 -- what was looked for before the room is not there
-module _ (c : After-at_most-2) where
-  abbrev a : Start
-  a = c.before.before.before.before
-
-  abbrev asked : ℕ
-  asked = room_for a.args.cars a.args.stops
-
-  passed : (r : Taken) → r ≡ cond (ltb a.args.room asked) (Refused LogShort) Accepted → r ≡ tick_taken a.args.started a.args.ticks a.args.cars a.args.stops a.args.room
-  unfolding tick_taken
-  passed r e = rw (c.before.before.before.if1.false, lt-leb (2 ^ 28) a.args.ticks c.before.before.if2.false) e
+passed : (c : After-at_most-2) (r : Taken) → r ≡ cond (ltb c.args.room (room_for c.args.cars c.args.stops)) (Refused LogShort) Accepted
+    → r ≡ tick_taken c.args.started c.args.ticks c.args.cars c.args.stops c.args.room
+unfolding tick_taken
+passed c r e = rw (c.if-not-started.false, lt-leb (2 ^ 28) c.args.ticks c.if-ticks-ge268435456.false) e
 
 pub returns-then-room-at_most : goal.returns-then-room-at_most
-returns-then-room-at_most c = passed c.before _ (rw (lt-ltb (a c.before).args.room (asked c.before) (rw (← room c.before) c.if-room-at_most.true)))
+returns-then-room-at_most c =
+    let d = (goal.at.returns-then-room-at_most c).After-at_most-2 in
+    passed d _ (rw (lt-ltb c.args.room (room_for c.args.cars c.args.stops) (rw (← room d) c.if-room-at_most.true)))
 
 pub returns : goal.returns
-returns c = passed c.before _ (rw (le-ltb (a c.before).args.room (asked c.before) (rw (← room c.before) c.if-room-at_most.false)))
+returns c =
+    let d = (goal.at.returns c).After-at_most-2 in
+    passed d _ (rw (le-ltb c.args.room (room_for c.args.cars c.args.stops) (rw (← room d) c.if-room-at_most.false)))
 
 pub overflow_mul-at_most : goal.overflow_mul-at_most
-overflow_mul-at_most c = omega (arith, fits c)
+overflow_mul-at_most c = omega (arith, fits (goal.at.overflow_mul-at_most c).After-at_most-2)
 
 pub overflow_add-at_most-2 : goal.overflow_add-at_most-2
-overflow_add-at_most-2 c = omega (arith, fits c)
+overflow_add-at_most-2 c = omega (arith, fits (goal.at.overflow_add-at_most-2 c).After-at_most-2)
