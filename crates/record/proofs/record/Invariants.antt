@@ -21,10 +21,6 @@ use Rattle.tick.specs.Tick.{ticked, tick_world, tick_words}
 use Rattle.record.proofs.Giving.{is_broken, is_whole, is_refused, is_changed, tick_refused, tick_taken_lem}
 use Rattle.record.proofs.record.Given as goal
 
--- from the doors to the moves
-abbrev moves : Third → Second
-moves c = c.before.before.before
-
 -- refusal 0, car by car
 abbrev pub invariant-loop-i : goal.invariant-loop-i
 invariant-loop-i l = (l.i ≤ l.cars) × (l.broken ≡ (l.initial.broken || cars_broken l.w l.i))

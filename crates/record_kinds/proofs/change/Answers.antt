@@ -3,7 +3,7 @@ use borrow.Author.Rules.{rules}
 use Rattle.record_kinds.proofs.change.Goals as goal
 
 pub returns-in-Line : goal.returns-in-Line
-returns-in-Line c = rw (c.in-Line.is, c.Load_Line.ensures)
+returns-in-Line c = rw (c.in-Line.is, c.load_line.ensures)
 
 pub returns-in-Stop : goal.returns-in-Stop
 returns-in-Stop c = rw (c.in-Stop.is, c.load_stop.ensures)
