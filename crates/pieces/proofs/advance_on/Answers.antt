@@ -17,7 +17,7 @@ returns c =
     let r = c.play_bytes-played in
     let k = c.close-closed in
     let t = c.keep in
-    advances a.piece.now a.out.now r.new.1.1.1.0 r.new.1.1.1.1.0 k.new.1.1.1.0 t.new.0 m.result a.ended r.result k.result t.result
+    advances a.piece.now a.out.now r.new.log r.new.out k.new.out t.new.bytes m.result a.ended r.result k.result t.result
     a.study
     a.log.now
     a.held
@@ -28,11 +28,13 @@ returns c =
     t.ensures
 
 pub overflow_mul-used : goal.overflow_mul-used
-overflow_mul-used c = omega (arith, bytes-used c)
+overflow_mul-used c =
+    let r = c.play_bytes-played in
+    let m = c.at_most-end in
+    omega (arith, r.ensures.within, words_few (take (m.result - 0) c.args.piece.now), length-take (m.result - 0) c.args.piece.now)
 
--- GONE: bytes-used : tie.Need-overflow-sub-close
--- bytes-used c =
---     let s = c.before.before.before.before.before.before.before.before.before.before.before.before.before.before.before in
---     let r = c.before.before.before.before.before.before.play-bytes in
---     let m = c.before.before.before.before.before.before.before.before.before.before.before.at_most in
---     omega (arith, r.ensures.within, words_few (take (m.result - 0) s.args.piece.now), length-take (m.result - 0) s.args.piece.now)
+pub overflow_sub-end : goal.overflow_sub-end
+overflow_sub-end c =
+    let r = c.play_bytes-played in
+    let m = c.at_most-end in
+    omega (arith, r.ensures.within, words_few (take (m.result - 0) c.args.piece.now), length-take (m.result - 0) c.args.piece.now)

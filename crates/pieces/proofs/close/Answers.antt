@@ -9,7 +9,7 @@ pub returns-then-ended-step : goal.returns-then-ended-step
 returns-then-ended-step c =
     let a = c.args in
     let f = c.finish in
-    at_end_lem (ends a.ended a.step.over (a.left / 4) a.step.at) a.step a.left a.out.now f.new.1.1.1.0 f.result c.if-ended-step.true f.ensures
+    at_end_lem (ends a.ended a.step.over (a.left / 4) a.step.at) a.step a.left a.out.now f.new.out f.result c.if-ended-step.true f.ensures
 
 pub returns : goal.returns
 returns c =

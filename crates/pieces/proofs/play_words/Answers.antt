@@ -9,6 +9,7 @@ use Rattle.log_writes.proofs.Writing.{wrote_length}
 use Rattle.study_text.specs.Text.{words_of}
 use Rattle.pieces.proofs.Going.{here, left, Going, begun, going, holds, stepped, fewer, turn, reached, rest_of}
 use Rattle.pieces.proofs.play_words.Goals as goal
+use Rattle.pieces.proofs.play_words.Goals.{After-struct_known-1}
 
 pub loop-over-init : goal.loop-over-init
 loop-over-init c =
@@ -16,8 +17,11 @@ loop-over-init c =
     let a = s.args in
     (s.requires.0, omega arith, going a.ended a.piece.now a.out.now a.log.now (begun a.study) refl s.requires.1 s.requires.2)
 
-pub loop-over-preserved : goal.loop-over-preserved
-loop-over-preserved c =
+-- a turn of the loop goes on, and uses no word past the end
+goes_next : (c : After-struct_known-1) → let l = c.loop-over in let r = c.turn-made in let t = c.tell_answer-told in
+    (l.from + t.result.used ≤ length c.args.words.now)
+    × Going c.args.ended (here (begun c.args.study) c.args.log.now c.args.piece.now 0 []) c.args.piece.now c.args.out.now r.new.log t.new.out (holds r.result t.result.counts t.result.at t.result.refused) (l.from + t.result.used)
+goes_next c =
     let a = c.args in
     let l = c.loop-over in
     let s = holds l.made l.counts l.at l.over in
@@ -26,18 +30,21 @@ loop-over-preserved c =
     let w = rest_of a.piece.now a.words.now l.from l.invariant.0 in
     let o = rw w at r.ensures in
     let g = turn a.ended a.piece.now l.log s l.from (here (begun a.study) a.log.now a.piece.now 0 []) a.out.now l.out
-    r.new.1.1.0
-    t.new.1.1.1.0
+    r.new.log
+    t.new.out
     (holds r.result t.result.counts t.result.at t.result.refused)
     t.result.used
     l.invariant.2
     (rw (← l.invariant.0, ← c.goes.ensures) c.loop-over-test.true)
     o.log
-    (stepped _ r.result r.new.1.1.0 l.out t.new.1.1.1.0 l.counts l.at t.result o t.ensures) in
-    (l.invariant.0, rw l.invariant.0 g.within, g)
+    (stepped _ r.result r.new.log l.out t.new.out l.counts l.at t.result o t.ensures) in
+    (rw l.invariant.0 g.within, g)
+
+pub loop-over-preserved : goal.loop-over-preserved
+loop-over-preserved c = let n = goes_next (goal.at.loop-over-preserved c).After-struct_known-1 in (c.loop-over.invariant.0, n.0, n.1)
 
 pub overflow_add-from : goal.overflow_add-from
-overflow_add-from c = let h = c.well_formed.1.1.0.0 in omega (arith, h, (loop-again c).1)
+overflow_add-from c = omega (arith, (goes_next c).0)
 
 pub loop-over-smaller : goal.loop-over-smaller
 loop-over-smaller c =
@@ -50,10 +57,10 @@ loop-over-smaller c =
     (holds r.result t.result.counts t.result.at t.result.refused)
     t.result.used
     l.out
-    t.new.1.1.1.0
+    t.new.out
     (rw (← l.invariant.0, ← c.goes.ensures) c.loop-over-test.true)
     l.invariant.2.within
-    (stepped _ r.result r.new.1.1.0 l.out t.new.1.1.1.0 l.counts l.at t.result (rw (rest_of a.piece.now a.words.now l.from l.invariant.0) at r.ensures) t.ensures)
+    (stepped _ r.result r.new.log l.out t.new.out l.counts l.at t.result (rw (rest_of a.piece.now a.words.now l.from l.invariant.0) at r.ensures) t.ensures)
 
 pub returns : goal.returns
 returns c =
