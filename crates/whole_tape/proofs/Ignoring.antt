@@ -28,6 +28,8 @@ module _ (g : Decoded → Type 0) where
 
   alike_in : (k : ℕ) (ts us : List Kind) → Alike ts us → g (kind_in k us) → kind_in k ts ≡ kind_in k us
   alike_in k [] [] end h = refl
+  alike_in k [] (u ∷ us) x h = elim x [ ]
+  alike_in k (t ∷ ts) [] x h = elim x [ ]
   alike_in k (t ∷ ts) (u ∷ us) (p and q) h = rw p.0 (go (eqb k u.number) h (λ i. alike_in k ts us q i))
     where
       go : (b : Bool) → g (cond b (answer u.deed) (kind_in k us)) → (g (kind_in k us) → kind_in k ts ≡ kind_in k us) → cond b (answer t.deed) (kind_in k ts) ≡ cond b (answer u.deed) (kind_in k us)

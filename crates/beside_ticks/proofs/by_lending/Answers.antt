@@ -26,7 +26,7 @@ overflow_add-used c =
     let a = c in
     let l = c.loop-i in
     let o = rw (rest_of a.args.words.now l.used) at c.turn-made.ensures in
-    omega (arith, a.well_formed.0.0, within l.made.world a.args.words.now l.log l.used o l.invariant.1 c.used_of-used.ensures)
+    omega (arith, within l.made.world a.args.words.now l.log l.used o l.invariant.1 c.used_of-used.ensures)
 
 pub returns : goal.returns
 returns c =

@@ -13,7 +13,7 @@ unfolding plus
 loop-i-preserved c =
     let a = c.args in
     let l = c.loop-i in
-    let o = rw (rest_of a.words.now l.used) at c.«record».ensures in
+    let o = rw (rest_of a.words.now l.used) at c.record-made.ensures in
     let u = c.used_of-used.ensures in (
       search rules,
       within l.made.world a.words.now l.log l.used o l.invariant.1 u,
@@ -25,8 +25,8 @@ pub overflow_add-used : goal.overflow_add-used
 overflow_add-used c =
     let a = c in
     let l = c.loop-i in
-    let o = rw (rest_of a.args.words.now l.used) at c.«record».ensures in
-    omega (arith, a.well_formed.0.0, within l.made.world a.args.words.now l.log l.used o l.invariant.1 c.used_of-used.ensures)
+    let o = rw (rest_of a.args.words.now l.used) at c.record-made.ensures in
+    omega (arith, within l.made.world a.args.words.now l.log l.used o l.invariant.1 c.used_of-used.ensures)
 
 pub returns : goal.returns
 returns c =
