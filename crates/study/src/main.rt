@@ -2,120 +2,100 @@
 // and the text written out, in rounds. Of the input only what no record has used yet is kept, so that a tape may have any length.
 #![tactic(auto)]
 
-ghost use Rattle.std.specs.Prelude.{◌≤◌};
-
 use laws::at_most;
-use libc::{STDERR_FILENO, STDIN_FILENO, STDOUT_FILENO};
-use pieces::{Study, advance, begin};
+use pieces::{advance, begin};
+use std::fmt;
+use std::io::{Read, Write};
+use std::process::ExitCode;
 
 // The bytes of the longest record: 69 words.
 const LONGEST: usize = 276;
 
-// Writes the buffer's first bytes. Answers whether all were taken.
-fn flush(out: &[u8], at: usize) -> bool {
-    if out.len() < at {
-        return false;
-    }
-    let from: usize = 0;
-    if io::write_all(STDOUT_FILENO, &out[from..at]) {
-        return true;
-    }
-    io::write_all(STDERR_FILENO, b"study: cannot write standard output\n");
-    false
+// What can end a study before its report.
+#[derive(Clone, Copy)]
+enum Failure {
+    Input,
+    Output,
 }
 
-// What is at hand of the input: so many bytes of the piece, and whether there is an end to it. A read can fail.
+impl fmt::Display for Failure {
+    fn fmt<W: fmt::Write>(&self, f: &mut fmt::Formatter<W>) -> fmt::Result {
+        match self {
+            Failure::Input => write!(f, "cannot read standard input"),
+            Failure::Output => write!(f, "cannot write standard output"),
+        }
+    }
+}
+
+// What is at hand of the input: so many bytes of the piece, and whether there is an end to it.
 #[derive(Clone, Copy)]
-struct Input {
+struct AtHand {
     held: usize,
     ended: bool,
-    failed: bool,
 }
 
-// Reads once, behind the bytes that are kept.
-fn with_read(piece: &mut [u8], held: usize) -> Input {
-    let from = at_most(held, piece.len());
-    let got = libc::read(STDIN_FILENO, &mut piece[from..]);
-    let count = io::count(got, &piece[from..]);
-    if got < 0 {
-        io::write_all(STDERR_FILENO, b"study: cannot read standard input\n");
-    }
-    Input {
-        held: std::num::wrapping_add_usize(from, count),
-        ended: count == 0,
-        failed: got < 0,
-    }
-}
-
-// Reads once where the bytes that are kept may end within a record.
-fn with_input(input: Input, piece: &mut [u8]) -> Input {
-    if input.ended | (LONGEST <= input.held) {
-        return input;
-    }
-    with_read(piece, input.held)
-}
-
-// The study after a round, what is at hand of the input, and whether another round follows: none after the report, a refusal or a failure.
-#[derive(Clone, Copy)]
-struct Round {
-    study: Study,
-    input: Input,
-    goes_on: bool,
-}
-
-// A round: more input where it is wanted, what is done with it, the text written out.
-fn with_round(
-    round: Round,
+// Reads once, behind the bytes that are kept, where these may end within a record.
+fn with_read<R: Read>(
+    input: &mut R,
     piece: &mut [u8; 16384],
-    log: &mut [u32; 2048],
-    out: &mut [u8; 65536],
-) -> Round {
-    let study = round.study;
-    let input = with_input(round.input, piece);
-    if input.failed {
-        return Round {
-            study,
-            input,
-            goes_on: false,
-        };
+    at_hand: AtHand,
+) -> Result<AtHand, Failure> {
+    let held = at_hand.held;
+    if at_hand.ended || LONGEST <= held {
+        return Ok(at_hand);
     }
-    let made = advance(study, piece, input.held, input.ended, log, out);
-    let next = made.study;
-    Round {
-        study: next,
-        input: Input {
-            held: made.held,
-            ended: input.ended,
-            failed: false,
-        },
-        goes_on: flush(out, made.at) & !next.over,
+    match input.read(&mut piece[held..]) {
+        Ok(count) => Ok(AtHand {
+            held: held + count,
+            ended: count == 0,
+        }),
+        Err(_) => Err(Failure::Input),
     }
 }
 
-// All rounds. No run makes more.
-fn run(piece: &mut [u8; 16384], log: &mut [u32; 2048], out: &mut [u8; 65536]) {
-    let mut round = Round {
-        study: begin(),
-        input: Input {
-            held: 0,
-            ended: false,
-            failed: false,
-        },
-        goes_on: true,
-    };
-    let mut rounds = u64::MAX;
-    while 0 < rounds {
-        round = with_round(round, piece, log, out);
-        if !round.goes_on {
-            return;
-        }
-        rounds -= 1;
+// Writes the buffer's first bytes.
+fn write_out<W: Write>(output: &mut W, out: &[u8], at: usize) -> Result<(), Failure> {
+    match output.write_all(&out[..at_most(at, out.len())]) {
+        Ok(()) => Ok(()),
+        Err(_) => Err(Failure::Output),
     }
 }
 
-fn main() {
+// Rounds until the report, a refusal or a failure: more input where it is wanted, what is done with it, the text written out. No run makes more of them.
+fn run<R: Read, W: Write>(input: &mut R, output: &mut W) -> Result<(), Failure> {
     let mut piece = [0u8; 16384];
     let mut log = [0u32; 2048];
-    let mut out = io::large_buffer();
-    run(&mut piece, &mut log, &mut out);
+    let mut out = [0u8; 65536];
+    let mut study = begin();
+    let mut at_hand = AtHand {
+        held: 0,
+        ended: false,
+    };
+    for _ in 0..u64::MAX {
+        let AtHand { held, ended } = with_read(input, &mut piece, at_hand)?;
+        let made = advance(study, &mut piece, held, ended, &mut log, &mut out);
+        write_out(output, &out, made.at)?;
+        if made.study.over {
+            return Ok(());
+        }
+        study = made.study;
+        at_hand = AtHand {
+            held: made.held,
+            ended,
+        };
+    }
+    Ok(())
+}
+
+fn main(rt: HostRuntime) -> ExitCode {
+    let mut input = rt.stdin();
+    let mut output = rt.stdout();
+    match run(&mut input, &mut output) {
+        Ok(()) => ExitCode::SUCCESS,
+        Err(failure) => {
+            // where standard error takes nothing, the status alone says it
+            let _ = eprintln!(rt; "study: {failure}");
+            ExitCode::FAILURE
+        }
+    }
 }
