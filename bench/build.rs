@@ -1,4 +1,4 @@
-//! Links libbeside_ticks.a, which `rt staticlib` wrote.
+//! Links libbeside_ticks.a, which tests/beside_rust/prepare laid out.
 
 use std::env;
 use std::path::Path;

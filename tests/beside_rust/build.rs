@@ -1,4 +1,4 @@
-//! Links the static libraries that `rt staticlib` wrote.
+//! Links the static libraries that ./prepare laid out.
 
 use std::env;
 use std::path::Path;

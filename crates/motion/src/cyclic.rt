@@ -5,8 +5,7 @@ ghost use Rattle.motion.specs.Cyclic as Cyclic;
 use float::{is_finite, min, rem_euclid};
 
 // A position brought into [0, circumference); unchanged where there is no circle or the position is not finite.
-#[unsafe(no_mangle)]
-pub extern "C" fn wrap_position(p: f64, circumference: f64) -> f64
+pub fn wrap_position(p: f64, circumference: f64) -> f64
     ensures { result ≡ Cyclic.wrap_position p circumference }
 {
     if (0.0 <= p) & (p < circumference) {
@@ -20,8 +19,7 @@ pub extern "C" fn wrap_position(p: f64, circumference: f64) -> f64
 }
 
 // The one-way distance ahead from `from` to `to`; 0 where there is no circle or a position is not finite.
-#[unsafe(no_mangle)]
-pub extern "C" fn forward_distance(from: f64, to: f64, circumference: f64) -> f64
+pub fn forward_distance(from: f64, to: f64, circumference: f64) -> f64
     ensures { result ≡ Cyclic.forward_distance from to circumference }
 {
     if !is_finite(circumference) | (circumference <= 0.0) | !is_finite(from) | !is_finite(to) {
@@ -34,8 +32,7 @@ pub extern "C" fn forward_distance(from: f64, to: f64, circumference: f64) -> f6
 }
 
 // The shorter way between a and b, in either direction.
-#[unsafe(no_mangle)]
-pub extern "C" fn cyclic_distance(a: f64, b: f64, circumference: f64) -> f64
+pub fn cyclic_distance(a: f64, b: f64, circumference: f64) -> f64
     ensures { result ≡ Cyclic.cyclic_distance a b circumference }
 {
     if !is_finite(circumference) | (circumference <= 0.0) {

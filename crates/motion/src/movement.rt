@@ -8,8 +8,7 @@ use velocity::fp::fma;
 use velocity::new_velocity;
 
 // The distance in which a car brakes to a stop; 0 where the rate is 0 or below.
-#[unsafe(no_mangle)]
-pub extern "C" fn braking_distance(velocity: f64, deceleration: f64) -> f64
+pub fn braking_distance(velocity: f64, deceleration: f64) -> f64
     ensures { result ≡ Movement.braking_distance velocity deceleration }
 {
     if deceleration <= 0.0 {
@@ -29,8 +28,7 @@ pub struct MovementResult {
 }
 
 // One tick towards a target on a line.
-#[unsafe(no_mangle)]
-pub extern "C" fn tick_movement(
+pub fn tick_movement(
     position: f64,
     velocity: f64,
     target_position: f64,
@@ -76,8 +74,7 @@ pub extern "C" fn tick_movement(
 }
 
 // One tick towards a target on a loop, forward only, the position wrapped into [0, circumference).
-#[unsafe(no_mangle)]
-pub extern "C" fn tick_movement_cyclic(
+pub fn tick_movement_cyclic(
     position: f64,
     velocity: f64,
     target_position: f64,
@@ -124,8 +121,7 @@ pub extern "C" fn tick_movement_cyclic(
 }
 
 // The target of a trailing car: the intended one, or `min_headway` behind its leader where that comes first.
-#[unsafe(no_mangle)]
-pub extern "C" fn headway_clamp_target(
+pub fn headway_clamp_target(
     trailer_position: f64,
     leader_position: f64,
     intended_target: f64,

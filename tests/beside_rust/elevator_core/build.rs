@@ -1,8 +1,8 @@
-//! Lays the crate out in OUT_DIR: a link for each file of the Rust source and for each stand-in.
+//! Lays the crate out in OUT_DIR: a copy of each file of the Rust source and of each stand-in. They are no links, since `rt ci`
+//! refuses a link in the checkout.
 
 use std::env;
 use std::fs;
-use std::os::unix::fs::symlink;
 use std::path::{Path, PathBuf};
 
 fn main() {
@@ -21,22 +21,23 @@ fn main() {
     if out.exists() {
         fs::remove_dir_all(&out).unwrap();
     }
-    link_all(&source, &out);
-    link_all(&here.join("stand_ins"), &out);
+    copy_all(&source, &out);
+    copy_all(&here.join("stand_ins"), &out);
 }
 
-/// Links every file under `from` at the same place under `to`. A file there twice is an error:
+/// Copies every file under `from` to the same place under `to`. A file there twice is an error:
 /// a stand-in never takes the place of a source file.
-fn link_all(from: &Path, to: &Path) {
+fn copy_all(from: &Path, to: &Path) {
     println!("cargo:rerun-if-changed={}", from.display());
     fs::create_dir_all(to).unwrap();
     for entry in fs::read_dir(from).unwrap() {
         let entry = entry.unwrap();
         let target = to.join(entry.file_name());
         if entry.path().is_dir() {
-            link_all(&entry.path(), &target);
+            copy_all(&entry.path(), &target);
         } else {
-            symlink(entry.path().canonicalize().unwrap(), &target).unwrap();
+            assert!(!target.exists(), "{} is there twice", target.display());
+            fs::copy(entry.path(), &target).unwrap();
         }
     }
 }
