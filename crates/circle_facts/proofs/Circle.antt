@@ -10,12 +10,12 @@ use lib.IntN.{ℤ}
 use lib.Ieee.{Float, nan, inf, fin, binary64, up, down, round, sum, add, sub, neg, rem, lt, le, is_nan, fits, of_bits}
 use lib.Ieee.Fits.{up_pos, down_pos}
 use lib.Ieee.Order.{round_mono}
-use borrow.Author.Tests.{ltb-true, ltb-false, eqb-true, eqb-false, lt-ltb, le-ltb}
+use borrow.Author.Tests.{ltb-true, ltb-false, eqb-false, lt-ltb, le-ltb}
 use Rattle.float.specs.Float as F64
 use Rattle.motion.specs.Cyclic.{InCircle, degenerate, wrap_position, forward_distance}
 use Rattle.circle_facts.specs.Facts.{IsCircle, WrapInCircle, ForwardInCircle, ForwardIsNumber}
 use Rattle.float.proofs.Cases.{lt_zero_pos, lt_zero_neg, null_le_zero, minus_le_zero, placed_minus}
-use Rattle.laws.proofs.Bools.{no, yes, holds, and_left}
+use Rattle.laws.proofs.Bools.{no, yes, holds}
 use Rattle.float.proofs.Rounding.{own, Plus, plus_round, neg_round, Within, within_neg, within_of_le, le_true}
 
 -- a fraction of at most c is at most c when it is rounded

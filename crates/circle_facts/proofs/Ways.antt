@@ -1,8 +1,8 @@
 -- The two ways between two positions: one is the difference of the wrapped positions, and the other is c minus it, each rounded. Assumes nothing.
 use mathlib.Core.Logic.{◌⊎◌, inl, inr}
 use mathlib.Core.Path.{◌≡◌, refl, sym, ap, ◌∙◌}
-use mathlib.Core.Bool.{Bool, true, false, not, ◌||◌, cond, or-true}
-use Prim.Native.Nat.{ℕ, zero, ◌-◌, ◌*◌, ◌<◌, ◌≤◌, ◌^◌}
+use mathlib.Core.Bool.{Bool, true, false, not, cond, or-true}
+use Prim.Native.Nat.{ℕ, ◌-◌, ◌*◌, ◌<◌, ◌≤◌, ◌^◌}
 use native.Mathlib.Nat.{zero-mul, mul-pos, sub-le, le_of_lt, le_trans}
 use native.Mathlib.Omega.{arith}
 use lib.Dec.{ltb}

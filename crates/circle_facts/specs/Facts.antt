@@ -1,7 +1,7 @@
 -- Facts of the formulas over any circle, and over any float that each names. The function `facts` carries them.
 use Rattle.std.specs.Prelude.{◌≡◌, true, false, Float}
 use Rattle.std.specs.Float.{inf, binary64}
-use Rattle.std.specs.Float.Ieee.{of_bits, add, sub, lt, le, eq, is_nan}
+use Rattle.std.specs.Float.Ieee.{of_bits, add, sub, le, eq, is_nan}
 use Rattle.float.specs.Float.{zero, is_finite, max}
 use Rattle.float.specs.Facts.{IsF64, EpsilonKeepsSide, TotalOrder}
 use Rattle.motion.specs.Cyclic.{InCircle, degenerate, wrap_position, forward_distance, cyclic_distance}

@@ -7,13 +7,13 @@ use native.Mathlib.Omega.{arith}
 use lib.Dec.{T, leb, ltb, eqb, ltb→lt, leb→le, eqb→eq}
 use lib.Pow.{pow_pos, pow-add, pow_mono, pow-lt, shl_lt}
 use lib.IntN.{ℤ, pos, negsuc}
-use lib.Ieee.{Float, nan, inf, fin, binary64, up, down, size, odd, units, round, sum, add, sub, neg, lt, le, is_nan, fits, low, prec, hid, top, of_bits, to_bits}
+use lib.Ieee.{Float, nan, inf, fin, binary64, up, down, size, odd, units, round, sum, add, sub, neg, lt, le, is_nan, fits, hid, top, of_bits, to_bits}
 use lib.Ieee.Bits.{of_bits-to_bits, to_bits-lt}
 use lib.Ieee.Digits.{back}
 use lib.Ieee.Exact.{HasValue, round_exact}
 use lib.Ieee.Fits.{up_pos, down_pos, round_is, round-fits}
 use lib.Ieee.Nearest.{div_same}
-use lib.Ieee.Order.{transfer, round_mono}
+use lib.Ieee.Order.{transfer}
 use borrow.Author.Tests.{leb-true, leb-false, le-leb, lt-leb, lt-ltb, ltb-false, eq-eqb}
 use Rattle.float.specs.Float as F64
 use Rattle.float.proofs.Cases.{zero_exponent}

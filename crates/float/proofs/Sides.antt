@@ -1,16 +1,15 @@
 -- fl(x - y) ≤ x and x ≤ fl(x + y) for y at or above 0: rounding keeps the order, and keeps x. Assumes nothing.
-use mathlib.Core.Path.{◌≡◌, refl, sym, ap, subst, ◌∙◌}
-use mathlib.Core.Bool.{Bool, true, false, not, ◌&&◌, ◌||◌, cond}
+use mathlib.Core.Path.{◌≡◌, refl, sym, subst, ◌∙◌}
+use mathlib.Core.Bool.{Bool, true, false, ◌&&◌, ◌||◌, cond}
 use Prim.Native.Nat.{ℕ, zero, suc, ◌+◌, ◌-◌, ◌*◌, ◌<◌, ◌≤◌}
-use native.Mathlib.Nat.{mul-pos, mul_assoc, mul-le-mul_right, le_trans, le_of_eq, mul_right_comm, sub-le, le-add_right}
+use native.Mathlib.Nat.{mul-pos, mul_assoc, mul-le-mul_right, le_trans, le_of_eq, mul_right_comm, sub-le}
 use native.Mathlib.Omega.{arith}
 use lib.Dec.{T, ltb, eqb}
-use lib.IntN.{ℤ, pos}
-use lib.Ieee.{Float, nan, inf, fin, binary64, up, down, round, sum, add, sub, neg, le, is_nan, fits, of_bits}
+use lib.IntN.{ℤ}
+use lib.Ieee.{Float, nan, inf, fin, binary64, up, down, round, sum, add, sub, neg, le, is_nan, of_bits}
 use lib.Ieee.Fits.{down_pos}
 use lib.Ieee.Order.{round_mono}
 use borrow.Author.Tests.{ltb-false, eq-eqb, lt-ltb}
-use Rattle.float.specs.Float as F64
 use Rattle.float.specs.Facts.{IsF64, EpsilonKeepsSide}
 use Rattle.float.proofs.Cases.{zero_exponent}
 use Rattle.laws.proofs.Bools.{yes, holds}

@@ -1,21 +1,14 @@
 -- A car's turn in one of the two systems, and the cars in ascending number.
-use Rattle.std.specs.Prelude.{Bool, true, false, ◌&&◌, cond, List, [], ◌∷◌, ◌++◌, ℕ, zero, suc, ◌+◌, ◌%◌, ◌^◌, min, ltb, set, replicate, Float}
+use Rattle.std.specs.Prelude.{Bool, true, false, ◌&&◌, cond, List, [], ◌∷◌, ◌++◌, ℕ, zero, suc, min, ltb, set, replicate, Float}
 use Rattle.std.specs.Bool.{beq}
-use Rattle.std.specs.Float.{binary64}
-use Rattle.door.specs.declared.DoorState.{DoorState}
-use Rattle.world.specs.World.{car_at, line_at}
+use Rattle.world.specs.World.{line_at}
 use Rattle.world.specs.declared.World.{World}
 use Rattle.world.specs.declared.Car.{Car}
 use Rattle.world.specs.declared.Line.{Line}
-use Rattle.world.specs.declared.Motion.{Motion}
-use Rattle.world.specs.declared.QueuedCommand.{QueuedCommand}
 use Rattle.world.specs.declared.LineKind.TheVariants.{Linear}
-use Rattle.world.specs.declared.ElevatorPhase.{ElevatorPhase}
 use Rattle.world.specs.declared.ServiceMode.{ServiceMode}
 use Rattle.world.specs.declared.ServiceMode.TheVariants.{Normal, Independent, Inspection, Manual, OutOfService}
-use Rattle.world.specs.declared.StopOption.{StopOption}
-use Rattle.world.specs.declared.StopOption.TheVariants.{NoStop, Stop}
-use Rattle.world.specs.declared.TickOption.{TickOption}
+use Rattle.world.specs.declared.StopOption.TheVariants.{NoStop}
 use Rattle.log_words.specs.Words.{word_of}
 use Rattle.log_words.specs.declared.Event.TheVariants.{DirectionIndicatorChanged}
 use Rattle.world.specs.declared.Lamps.{Lamps}

@@ -1,8 +1,8 @@
 -- What is read of a tape (the input record stream): an answer, the checks before it, and the ranges of numbers and floats.
-use Rattle.std.specs.Prelude.{Bool, not, cond, List, [], ◌∷◌, ℕ, ltb, eqb, replicate, Float}
+use Rattle.std.specs.Prelude.{Bool, not, List, ℕ, ltb, eqb, replicate, Float}
 use Rattle.std.specs.Float.{binary64}
 use Rattle.std.specs.Float.Ieee.{of_bits}
-use Rattle.world.specs.Refusal.{Check, check, unless}
+use Rattle.world.specs.Refusal.{Check, unless}
 use Rattle.world.specs.declared.refusal.Refusal.{Refusal}
 use Rattle.tape_records.specs.declared.Record.{Record}
 use Rattle.tape_records.specs.declared.Read.{Read}

@@ -1,7 +1,6 @@
 -- `changes::ordered` meets its contract. Assumes nothing.
 use mathlib.Core.Path.{◌∙◌}
 use borrow.Author.Tests.{le-leb, lt-leb}
-use borrow.Author.Rules.{rules}
 use Rattle.changes.specs.Parts.{ordered}
 use Rattle.changes.proofs.ordered.Goals as goal
 

@@ -1,5 +1,4 @@
 -- `changes::row_of` meets its contract. Assumes nothing.
-use borrow.Author.Rules.{rules}
 use borrow.Author.Tests.{lt-ltb, le-ltb}
 use Rattle.changes.specs.Parts.{row_of}
 use Rattle.changes.proofs.row_of.Goals as goal

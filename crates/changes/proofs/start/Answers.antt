@@ -1,7 +1,6 @@
 -- `changes::start` meets its contract. Assumes nothing.
 use mathlib.Core.Path.{◌∙◌}
 use Rattle.changes.specs.Changes.{start}
-use borrow.Author.Rules.{rules}
 use Rattle.changes.proofs.start.Goals as goal
 
 pub returns-then-world : goal.returns-then-world

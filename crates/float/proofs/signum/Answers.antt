@@ -1,6 +1,6 @@
 -- `float::signum` meets its contract. Assumes nothing.
 use mathlib.Core.Path.{◌≡◌, sym, ◌∙◌}
-use mathlib.Core.Bool.{true, false}
+use mathlib.Core.Bool.{false}
 use lib.Ieee.{is_nan}
 use borrow.Author.Tests.{le-leb, lt-leb}
 use Rattle.float.proofs.Cases.{ne_self, signum_of_nan, signum_below, signum_above}

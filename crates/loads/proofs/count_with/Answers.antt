@@ -1,5 +1,4 @@
 -- `loads::count_with` meets its contract. Assumes nothing.
-use borrow.Author.Rules.{rules}
 use borrow.Author.Tests.{eq-eqb, ne_eqb}
 use Rattle.loads.proofs.count_with.Goals as goal
 

@@ -2,7 +2,6 @@
 use mathlib.Core.Path.{◌∙◌}
 use borrow.Author.Tests.{le-leb, lt-leb, lt-ltb, le-ltb}
 use Rattle.loads.specs.Loads.{load_rider}
-use borrow.Author.Rules.{rules}
 use Rattle.loads.proofs.load_rider.Goals as goal
 
 pub returns-then-at-ge128 : goal.returns-then-at-ge128

@@ -2,7 +2,6 @@
 use mathlib.Core.Path.{◌∙◌}
 use borrow.Author.Tests.{le-leb, lt-leb, eq-eqb, ne_eqb}
 use Rattle.loads.specs.Loads.{load_stop}
-use borrow.Author.Rules.{rules}
 use Rattle.loads.proofs.load_stop.Goals as goal
 
 pub returns-then-world : goal.returns-then-world

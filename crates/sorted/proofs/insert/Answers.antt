@@ -1,10 +1,7 @@
 -- `sorted::insert` meets its contract: from each place down the rest of the insertion gives the same table. Assumes nothing.
 use mathlib.Core.Path.{◌≡◌, sym, ◌∙◌}
-use Prim.Native.Nat.{◌+◌, ◌≤◌}
 use native.Mathlib.Omega.{arith}
-use borrow.Author.Rules.{rules}
 use borrow.Author.Tests.{not-true, not-false}
-use Rattle.sorted.specs.Sorted.{sorted_table}
 use Rattle.sorted.proofs.Insertion.{from_back, moved, placed, table_grows}
 use Rattle.sorted.proofs.insert.Goals as goal
 

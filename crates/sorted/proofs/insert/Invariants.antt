@@ -1,11 +1,8 @@
 -- What the loops keep.
-use mathlib.Core.Path.{◌≡◌, sym, ◌∙◌}
+use mathlib.Core.Path.{◌≡◌}
 use Prim.Native.Nat.{◌+◌, ◌≤◌}
-use native.Mathlib.Omega.{arith}
-use borrow.Author.Rules.{rules}
-use borrow.Author.Tests.{not-true, not-false}
 use Rattle.sorted.specs.Sorted.{sorted_table}
-use Rattle.sorted.proofs.Insertion.{from_back, moved, placed, table_grows}
+use Rattle.sorted.proofs.Insertion.{from_back}
 use Rattle.sorted.proofs.insert.Given as goal
 
 abbrev pub invariant-loop-k : goal.invariant-loop-k

@@ -1,9 +1,8 @@
 -- `sorted::sorted_stops` meets its contract: the table holds the stops passed, sorted. Assumes nothing.
 use mathlib.Core.Path.{◌≡◌, refl}
-use Prim.Native.Nat.{◌≤◌, ◌-◌, min}
+use Prim.Native.Nat.{min}
 use native.Mathlib.Omega.{arith}
-use borrow.Author.Rules.{rules}
-use Rattle.sorted.specs.Sorted.{sorted_stops, sorted_table}
+use Rattle.sorted.specs.Sorted.{sorted_stops}
 use Rattle.sorted.proofs.sorted_stops.Goals as goal
 
 pub loop-i-init : goal.loop-i-init

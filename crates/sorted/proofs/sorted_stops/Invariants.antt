@@ -1,9 +1,7 @@
 -- What the loops keep.
-use mathlib.Core.Path.{◌≡◌, refl}
-use Prim.Native.Nat.{◌≤◌, ◌-◌, min}
-use native.Mathlib.Omega.{arith}
-use borrow.Author.Rules.{rules}
-use Rattle.sorted.specs.Sorted.{sorted_stops, sorted_table}
+use mathlib.Core.Path.{◌≡◌}
+use Prim.Native.Nat.{◌≤◌, ◌-◌}
+use Rattle.sorted.specs.Sorted.{sorted_table}
 use Rattle.sorted.proofs.sorted_stops.Given as goal
 
 abbrev pub invariant-loop-i : goal.invariant-loop-i

@@ -1,10 +1,8 @@
 -- `sound::cars_broken` meets its contract. Assumes nothing.
 use mathlib.Core.Path.{◌≡◌, refl}
-use Prim.Native.Nat.{◌≤◌, ◌-◌}
 use native.Mathlib.Numerals.{add-one}
 use native.Mathlib.Omega.{arith}
-use Rattle.world.specs.World.{car_at}
-use Rattle.sound_rows.specs.Rows.{any_to, car_broken}
+use Rattle.sound_rows.specs.Rows.{any_to}
 use borrow.Author.Rules.{rules}
 use Rattle.sound.proofs.cars_broken.Goals as goal
 

@@ -1,11 +1,8 @@
 -- What the loops keep.
-use mathlib.Core.Path.{◌≡◌, refl}
+use mathlib.Core.Path.{◌≡◌}
 use Prim.Native.Nat.{◌≤◌, ◌-◌}
-use native.Mathlib.Numerals.{add-one}
-use native.Mathlib.Omega.{arith}
 use Rattle.world.specs.World.{car_at}
 use Rattle.sound_rows.specs.Rows.{any_to, car_broken}
-use borrow.Author.Rules.{rules}
 use Rattle.sound.proofs.cars_broken.Given as goal
 
 abbrev pub invariant-loop-i : goal.invariant-loop-i

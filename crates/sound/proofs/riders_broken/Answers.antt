@@ -1,10 +1,8 @@
 -- `sound::riders_broken` meets its contract. Assumes nothing.
 use mathlib.Core.Path.{◌≡◌, refl}
-use Prim.Native.Nat.{◌≤◌, ◌-◌}
 use native.Mathlib.Numerals.{add-one}
 use native.Mathlib.Omega.{arith}
-use Rattle.world.specs.World.{rider_at}
-use Rattle.sound_rows.specs.Rows.{any_to, rider_broken}
+use Rattle.sound_rows.specs.Rows.{any_to}
 use borrow.Author.Rules.{rules}
 use Rattle.sound.proofs.riders_broken.Goals as goal
 

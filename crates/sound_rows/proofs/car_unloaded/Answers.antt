@@ -1,5 +1,4 @@
 -- `sound_rows::car_unloaded` meets its contract. Assumes nothing.
-use borrow.Author.Rules.{rules}
 use Rattle.sound_rows.proofs.car_unloaded.Goals as goal
 
 pub returns-in-OfCar : goal.returns-in-OfCar

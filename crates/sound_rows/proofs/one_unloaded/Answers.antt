@@ -1,11 +1,9 @@
 -- `sound_rows::one_unloaded` meets its contract. Assumes nothing.
 use mathlib.Core.Path.{◌≡◌, refl}
-use Prim.Native.Nat.{◌≤◌, ◌-◌}
 use native.Mathlib.Numerals.{add-one}
 use native.Mathlib.Omega.{arith}
-use lib.ListN.{get_or}
 use borrow.Author.Rules.{rules}
-use Rattle.sound_rows.specs.Rows.{any_to, unloaded}
+use Rattle.sound_rows.specs.Rows.{any_to}
 use Rattle.sound_rows.proofs.one_unloaded.Goals as goal
 
 pub loop-i-init : goal.loop-i-init

@@ -1,10 +1,7 @@
 -- What the loops keep.
-use mathlib.Core.Path.{◌≡◌, refl}
+use mathlib.Core.Path.{◌≡◌}
 use Prim.Native.Nat.{◌≤◌, ◌-◌}
-use native.Mathlib.Numerals.{add-one}
-use native.Mathlib.Omega.{arith}
 use lib.ListN.{get_or}
-use borrow.Author.Rules.{rules}
 use Rattle.sound_rows.specs.Rows.{any_to, unloaded}
 use Rattle.sound_rows.proofs.one_unloaded.Given as goal
 

@@ -1,5 +1,4 @@
 -- `sound_rows::phase_unloaded` meets its contract. Assumes nothing.
-use borrow.Author.Rules.{rules}
 use Rattle.sound_rows.proofs.phase_unloaded.Goals as goal
 
 pub returns-in-MovingToStop : goal.returns-in-MovingToStop

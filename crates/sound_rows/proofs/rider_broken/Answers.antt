@@ -1,6 +1,5 @@
 -- `sound_rows::rider_broken` meets its contract. Assumes nothing.
 use Rattle.sound_rows.specs.Rows.{rider_broken}
-use borrow.Author.Rules.{rules}
 use Rattle.sound_rows.proofs.rider_broken.Goals as goal
 
 pub returns : goal.returns

@@ -1,5 +1,4 @@
 -- `sound_rows::rider_phase_unloaded` meets its contract. Assumes nothing.
-use borrow.Author.Rules.{rules}
 use Rattle.sound_rows.proofs.rider_phase_unloaded.Goals as goal
 
 pub returns-in-Boarding : goal.returns-in-Boarding

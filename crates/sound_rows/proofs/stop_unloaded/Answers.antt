@@ -1,5 +1,4 @@
 -- `sound_rows::stop_unloaded` meets its contract. Assumes nothing.
-use borrow.Author.Rules.{rules}
 use Rattle.sound_rows.proofs.stop_unloaded.Goals as goal
 
 pub returns-in-Stop : goal.returns-in-Stop

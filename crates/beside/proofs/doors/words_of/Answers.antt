@@ -1,5 +1,4 @@
 -- `beside::doors::words_of` meets its contract. Assumes nothing.
-use borrow.Author.Rules.{rules}
 use Rattle.beside.proofs.doors.words_of.Goals as goal
 
 pub returns-in-Closed : goal.returns-in-Closed

@@ -1,5 +1,4 @@
 -- `door::DoorState::tick` meets its contract. Assumes nothing.
-use borrow.Author.Rules.{rules}
 use Rattle.door.proofs.DoorState.tick.Goals as goal
 
 pub returns-in-Closed : goal.returns-in-Closed

@@ -1,5 +1,4 @@
 -- `fields::body::float_at` meets its contract. Assumes nothing.
-use borrow.Author.Rules.{rules}
 use Rattle.fields.specs.Fields.{float_at}
 use Rattle.fields.proofs.body.float_at.Goals as goal
 

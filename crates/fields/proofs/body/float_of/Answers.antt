@@ -1,7 +1,6 @@
 -- `fields::body::float_of` meets its contract. Assumes nothing.
 use mathlib.Core.Path.{refl}
 use Prim.Native.Nat.{◌+◌, ◌*◌, ◌^◌}
-use borrow.Author.Rules.{rules}
 use Rattle.fields.proofs.Floats.{nan_above, number_below}
 use Rattle.fields.proofs.body.float_of.Goals as goal
 

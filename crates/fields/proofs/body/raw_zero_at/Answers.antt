@@ -1,5 +1,4 @@
 -- `fields::body::raw_zero_at` meets its contract. Assumes nothing.
-use borrow.Author.Rules.{rules}
 use Rattle.fields.specs.Fields.{raw_zero_at}
 use Rattle.fields.proofs.body.raw_zero_at.Goals as goal
 

@@ -1,6 +1,5 @@
 -- `fields::body::word_at` meets its contract. Assumes nothing.
 use lib.ListN.{get_or-eq_default}
-use borrow.Author.Rules.{rules}
 use Rattle.fields.proofs.body.word_at.Goals as goal
 
 pub returns-else-at-words : goal.returns-else-at-words

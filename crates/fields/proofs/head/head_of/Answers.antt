@@ -1,6 +1,5 @@
 -- `fields::head::head_of` meets its contract. Assumes nothing.
 use mathlib.Core.Path.{refl}
-use borrow.Author.Rules.{rules}
 use Rattle.layout.specs.Layout.{kind_of, n_of, s_of, v_of}
 use Rattle.fields.proofs.head.head_of.Goals as goal
 

@@ -1,5 +1,4 @@
 -- `lookup::stops::elevator_line_serves` meets its contract. Assumes nothing.
-use borrow.Author.Rules.{rules}
 use borrow.Author.Tests.{lt-ltb, le-ltb}
 use Rattle.lookup.specs.Stops.{elevator_line_serves}
 use Rattle.lookup.proofs.stops.elevator_line_serves.Goals as goal

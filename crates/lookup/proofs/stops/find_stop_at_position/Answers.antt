@@ -1,9 +1,8 @@
 -- `lookup::stops::find_stop_at_position` meets its contract: what is found from s on is what is found. Assumes nothing.
 use mathlib.Core.Path.{◌≡◌, sym, ◌∙◌}
-use Prim.Native.Nat.{ℕ, ◌≤◌, ◌-◌}
+use Prim.Native.Nat.{ℕ, ◌-◌}
 use native.Mathlib.Omega.{arith}
-use borrow.Author.Rules.{rules}
-use Rattle.lookup.specs.Stops.{first_standing, find_stop_at_position}
+use Rattle.lookup.specs.Stops.{find_stop_at_position}
 use Rattle.lookup.proofs.Standing.{found, passed, ended}
 use Rattle.lookup.proofs.stops.find_stop_at_position.Goals as goal
 

@@ -1,10 +1,7 @@
 -- What the loops keep.
-use mathlib.Core.Path.{◌≡◌, sym, ◌∙◌}
+use mathlib.Core.Path.{◌≡◌}
 use Prim.Native.Nat.{ℕ, ◌≤◌, ◌-◌}
-use native.Mathlib.Omega.{arith}
-use borrow.Author.Rules.{rules}
 use Rattle.lookup.specs.Stops.{first_standing, find_stop_at_position}
-use Rattle.lookup.proofs.Standing.{found, passed, ended}
 use Rattle.lookup.proofs.stops.find_stop_at_position.Given as goal
 
 abbrev pub invariant-loop-s : goal.invariant-loop-s

@@ -1,11 +1,10 @@
 -- `lookup::stops::find_stop_at_position_in` meets its contract: what is found from i on is what is found. Assumes nothing.
 use mathlib.Core.Path.{◌≡◌, sym, ◌∙◌}
 use mathlib.Core.List.{List}
-use Prim.Native.Nat.{ℕ, ◌≤◌, ◌-◌}
+use Prim.Native.Nat.{ℕ, ◌-◌}
 use native.Mathlib.Omega.{arith}
 use lib.ListN.{get_or}
-use borrow.Author.Rules.{rules}
-use Rattle.lookup.specs.Stops.{first_standing, find_stop_at_position_in}
+use Rattle.lookup.specs.Stops.{find_stop_at_position_in}
 use Rattle.lookup.proofs.Standing.{found, passed, ended}
 use Rattle.lookup.proofs.stops.find_stop_at_position_in.Goals as goal
 

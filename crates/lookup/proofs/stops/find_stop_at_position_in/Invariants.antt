@@ -1,12 +1,9 @@
 -- What the loops keep.
-use mathlib.Core.Path.{◌≡◌, sym, ◌∙◌}
+use mathlib.Core.Path.{◌≡◌}
 use mathlib.Core.List.{List}
 use Prim.Native.Nat.{ℕ, ◌≤◌, ◌-◌}
-use native.Mathlib.Omega.{arith}
 use lib.ListN.{get_or}
-use borrow.Author.Rules.{rules}
 use Rattle.lookup.specs.Stops.{first_standing, find_stop_at_position_in}
-use Rattle.lookup.proofs.Standing.{found, passed, ended}
 use Rattle.lookup.proofs.stops.find_stop_at_position_in.Given as goal
 
 abbrev at : List ℕ → ℕ → ℕ

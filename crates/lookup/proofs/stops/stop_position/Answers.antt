@@ -1,6 +1,5 @@
 -- `lookup::stops::stop_position` meets its contract. Assumes nothing.
 use mathlib.Core.Path.{refl, sym}
-use borrow.Author.Rules.{rules}
 use lib.ListN.{get_or-eq_default}
 use lib.Ieee.{div, of_bits, nan}
 use Rattle.lookup.proofs.stops.stop_position.Goals as goal
