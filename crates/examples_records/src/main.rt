@@ -2,6 +2,8 @@
 // It prints what the last one is answered, or which earlier one was refused. A line without '=' is a heading.
 #![tactic(auto)]
 
+ghost use Rattle.std.specs.Prelude.{◌≡◌, drop};
+
 use anyhow::{Context, Result};
 use record::{Answer, record};
 use std::alloc::Global;
@@ -28,7 +30,9 @@ fn words_of(alloc: Global, text: &str) -> Result<Vec<u32>> {
 }
 
 // What stands behind the words that a record used.
-fn behind(words: &[u32], used: usize) -> &[u32] {
+fn behind(words: &[u32], used: usize) -> &[u32]
+    ensures { result.now ≡ drop used words.now }
+{
     words.get(used..).unwrap_or(&[])
 }
 

@@ -1,4 +1,6 @@
 // A tape's records, taken one after the other.
+ghost use Rattle.std.specs.Prelude.{◌≡◌, drop};
+
 use crate::show::write_tick;
 use laws::at_most;
 use record::{Answer, record};
@@ -8,7 +10,9 @@ use world::empty::empty;
 use world::refusal::number;
 
 // What stands behind the words that a record used.
-fn behind(words: &[u32], used: usize) -> &[u32] {
+fn behind(words: &[u32], used: usize) -> &[u32]
+    ensures { result.now ≡ drop used words.now }
+{
     words.get(used..).unwrap_or(&[])
 }
 

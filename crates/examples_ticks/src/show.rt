@@ -1,4 +1,6 @@
 // What is printed of a tick: a line of its words, a line a car, a line with the counters and the hall calls.
+ghost use Rattle.std.specs.Prelude.{◌<◌};
+
 use door::{DoorCommand, DoorState};
 use laws::at_most;
 use std::io;
@@ -82,7 +84,9 @@ fn write_door<W: Write>(out: &mut W, door: DoorState) -> io::Result<()> {
 }
 
 // The lamps up, down and forward and the repositioning flag, as one digit.
-fn marks(car: &Car) -> u8 {
+fn marks(car: &Car) -> u8
+    ensures { result < 16 }
+{
     8 * u8::from(car.going_up)
         + 4 * u8::from(car.going_down)
         + 2 * u8::from(car.going_forward)
