@@ -19,9 +19,9 @@ loop-i-preserved c =
     let o = sym c.is_other.ensures in (
       omega arith,
       elim c.if-is_other.branch [
-        then-is_other+then-is_nearer w ↦ rw (w.found-is, w.nearest-is, w.position-is, w.forward_distance-distance.ensures) (taken a.me a.line l.i l.invariant.1 (o ∙ w.if-is_other.true) (rw w.forward_distance-distance.ensures at (sym w.is_nearer.ensures ∙ w.if-is_nearer.true)))
-      | then-is_other+else-is_nearer w ↦ rw (w.found-is, w.nearest-is, w.position-is) (kept a.me a.line l.i l.invariant.1 (o ∙ w.if-is_other.true) (rw w.forward_distance-distance.ensures at (sym w.is_nearer.ensures ∙ w.if-is_nearer.false)))
-      | else-is_other w ↦ rw (w.found-is, w.nearest-is, w.position-is) (passed a.me a.line l.i l.invariant.1 (o ∙ w.if-is_other.false))
+        | then-is_other+then-is_nearer w ↦ rw (w.found-is, w.nearest-is, w.position-is, w.forward_distance-distance.ensures) (taken a.me a.line l.i l.invariant.1 (o ∙ w.if-is_other.true) (rw w.forward_distance-distance.ensures at (sym w.is_nearer.ensures ∙ w.if-is_nearer.true)))
+        | then-is_other+else-is_nearer w ↦ rw (w.found-is, w.nearest-is, w.position-is) (kept a.me a.line l.i l.invariant.1 (o ∙ w.if-is_other.true) (rw w.forward_distance-distance.ensures at (sym w.is_nearer.ensures ∙ w.if-is_nearer.false)))
+        | else-is_other w ↦ rw (w.found-is, w.nearest-is, w.position-is) (passed a.me a.line l.i l.invariant.1 (o ∙ w.if-is_other.false))
       ],
     )
 
