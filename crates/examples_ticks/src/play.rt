@@ -1,42 +1,76 @@
 // A tape's records, taken one after the other.
-ghost use Rattle.std.specs.Prelude.{◌≡◌, drop};
+ghost use Rattle.std.specs.Prelude.{◌≤◌};
 
-use crate::show::write_tick;
+use crate::show::put_tick;
+use crate::text::flush_half;
 use laws::at_most;
 use record::{Answer, record};
-use std::io;
-use std::io::Write;
+use study_text::put_refused;
+use world::World;
 use world::empty::empty;
-use world::refusal::number;
 
-// What stands behind the words that a record used.
-fn behind(words: &[u32], used: usize) -> &[u32]
-    ensures { result.now ≡ drop used words.now }
-{
-    words.get(used..).unwrap_or(&[])
-}
-
-// Record after record from an empty world. Each uses a word at least.
-pub fn play<W: Write>(out: &mut W, words: &[u32]) -> io::Result<()> {
-    let mut log = [0u32; 2048];
-    let mut world = empty();
-    let mut rest = words;
-    for _ in words {
-        if rest.is_empty() {
-            return Ok(());
-        }
-        let recorded = record(world, rest, &mut log);
-        world = recorded.world;
-        match recorded.answer {
-            Answer::Refused(refusal) => return writeln!(out, "refused {}", number(refusal)),
-            Answer::Accepted { used, written } => {
-                // A tick writes its own word at least, and no other record writes one.
-                if 0 < written {
-                    write_tick(out, &log[..at_most(written, 2048)], &world)?;
-                }
-                rest = behind(rest, used);
+// What is printed of an answer. A tick writes its own word at least, and no other record writes one.
+fn put_answer(out: &mut [u8], at: usize, log: &[u32], answer: Answer, world: World) -> usize {
+    match answer {
+        Answer::Accepted { used: _, written } => {
+            if written == 0 {
+                return at;
             }
+            put_tick(out, at, log, written, world)
+        }
+        Answer::Refused(refusal) => {
+            let to = flush_half(out, at);
+            put_refused(out, to, refusal)
         }
     }
-    Ok(())
+}
+
+// The words that a record used; a refused one none.
+fn used_of(answer: Answer) -> usize {
+    match answer {
+        Answer::Accepted { used, written: _ } => used,
+        Answer::Refused(_) => 0,
+    }
+}
+
+fn goes_on(answer: Answer) -> bool {
+    match answer {
+        Answer::Accepted { .. } => true,
+        Answer::Refused(_) => false,
+    }
+}
+
+// The place after a record that begins at `at`, at most the end.
+fn after(at: usize, used: usize, end: usize) -> usize
+    requires { at ≤ end }
+    ensures { result ≤ end }
+{
+    if end - at <= used {
+        return end;
+    }
+    at + used
+}
+
+// The first `count` words, record after record from an empty world, at most 8,192.
+pub fn play(words: &[u32], count: usize, log: &mut [u32], out: &mut [u8], at: usize) -> usize {
+    let end = at_most(count, words.len());
+    let mut world = empty();
+    let mut to = at;
+    let mut from: usize = 0;
+    let mut records: u64 = 0;
+    while records < 8192 {
+        if from == end {
+            return to;
+        }
+        let recorded = record(world, &words[from..end], log);
+        let answer = recorded.answer;
+        world = recorded.world;
+        to = put_answer(out, to, log, answer, world);
+        if !goes_on(answer) {
+            return to;
+        }
+        from = after(from, used_of(answer), end);
+        records += 1;
+    }
+    to
 }

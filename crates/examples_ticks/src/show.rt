@@ -1,196 +1,228 @@
 // What is printed of a tick: a line of its words, a line a car, a line with the counters and the hall calls.
-ghost use Rattle.std.specs.Prelude.{◌<◌};
+ghost use Rattle.std.specs.Prelude.{◌≤◌};
 
+use crate::text::{flush_half, put_digits, put_float, put_number};
 use door::{DoorCommand, DoorState};
 use laws::at_most;
-use std::io;
-use std::io::Write;
+use study_numbers::put;
 use world::{Car, ElevatorPhase, QueuedCommand, StopOption, TickOption, World};
 
-// The words of a tick.
-fn write_words<W: Write>(out: &mut W, words: &[u32]) -> io::Result<()> {
-    for word in words {
-        write!(out, "{word:08x} ")?;
-    }
-    writeln!(out, "")
+// A word and a space.
+fn put_word(out: &mut [u8], at: usize, word: u32) -> usize {
+    let to = put_digits(out, at, word as u64, 8);
+    put(out, to, b' ')
 }
 
-// A number in one digit, 8 or 16.
-fn write_number<W: Write>(out: &mut W, number: u64) -> io::Result<()> {
-    if number < 16 {
-        write!(out, "{number:x}")
-    } else if number < 0x1_0000_0000 {
-        write!(out, "{number:08x}")
-    } else {
-        write!(out, "{number:016x}")
+// The log's first words.
+fn put_words(out: &mut [u8], at: usize, log: &[u32], count: usize) -> usize {
+    let end = at_most(count, log.len());
+    let mut to = at;
+    let mut i: usize = 0;
+    while i < end {
+        to = put_word(out, to, log[i]);
+        i += 1;
     }
-}
-
-// A float's bits. Any NaN is the positive quiet one.
-fn bits(x: f64) -> u64 {
-    if x.is_nan() {
-        0x7ff8_0000_0000_0000
-    } else {
-        x.to_bits()
-    }
+    put(out, to, b'\n')
 }
 
 // The phase's number in the Rust's order, and its stop.
-fn write_phase<W: Write>(out: &mut W, phase: ElevatorPhase) -> io::Result<()> {
+fn put_phase(out: &mut [u8], at: usize, phase: ElevatorPhase) -> usize {
     match phase {
-        ElevatorPhase::Idle => write!(out, "0"),
-        ElevatorPhase::MovingToStop(stop) => write!(out, "1{stop:02x}"),
-        ElevatorPhase::Repositioning(stop) => write!(out, "2{stop:02x}"),
-        ElevatorPhase::DoorOpening => write!(out, "3"),
-        ElevatorPhase::Loading => write!(out, "4"),
-        ElevatorPhase::DoorClosing => write!(out, "5"),
-        ElevatorPhase::Stopped => write!(out, "6"),
+        ElevatorPhase::Idle => put(out, at, b'0'),
+        ElevatorPhase::MovingToStop(stop) => put_digits(out, at, 0x100 + stop as u64, 3),
+        ElevatorPhase::Repositioning(stop) => put_digits(out, at, 0x200 + stop as u64, 3),
+        ElevatorPhase::DoorOpening => put(out, at, b'3'),
+        ElevatorPhase::Loading => put(out, at, b'4'),
+        ElevatorPhase::DoorClosing => put(out, at, b'5'),
+        ElevatorPhase::Stopped => put(out, at, b'6'),
     }
 }
 
 // A comma and a number.
-fn write_ticks<W: Write>(out: &mut W, ticks: u32) -> io::Result<()> {
-    write!(out, ",")?;
-    write_number(out, u64::from(ticks))
+fn put_ticks(out: &mut [u8], at: usize, ticks: u32) -> usize {
+    let to = put(out, at, b',');
+    put_number(out, to, ticks as u64)
 }
 
 // The door's number in the Rust's order, and its fields.
-fn write_door<W: Write>(out: &mut W, door: DoorState) -> io::Result<()> {
+fn put_door(out: &mut [u8], at: usize, door: DoorState) -> usize {
     match door {
-        DoorState::Closed => write!(out, "0"),
+        DoorState::Closed => put(out, at, b'0'),
         DoorState::Opening {
             ticks_remaining,
             open_duration,
             close_duration,
         } => {
-            write!(out, "1")?;
-            write_ticks(out, ticks_remaining)?;
-            write_ticks(out, open_duration)?;
-            write_ticks(out, close_duration)
+            let first = put(out, at, b'1');
+            let second = put_ticks(out, first, ticks_remaining);
+            let third = put_ticks(out, second, open_duration);
+            put_ticks(out, third, close_duration)
         }
         DoorState::Open {
             ticks_remaining,
             close_duration,
         } => {
-            write!(out, "2")?;
-            write_ticks(out, ticks_remaining)?;
-            write_ticks(out, close_duration)
+            let first = put(out, at, b'2');
+            let second = put_ticks(out, first, ticks_remaining);
+            put_ticks(out, second, close_duration)
         }
         DoorState::Closing { ticks_remaining } => {
-            write!(out, "3")?;
-            write_ticks(out, ticks_remaining)
+            let first = put(out, at, b'3');
+            put_ticks(out, first, ticks_remaining)
         }
     }
 }
 
-// The lamps up, down and forward and the repositioning flag, as one digit.
-fn marks(car: &Car) -> u8
-    ensures { result < 16 }
+fn bit(mark: bool) -> u64
+    ensures { result ≤ 1 }
 {
-    8 * u8::from(car.going_up)
-        + 4 * u8::from(car.going_down)
-        + 2 * u8::from(car.going_forward)
-        + u8::from(car.repositioning)
+    if mark { 1 } else { 0 }
 }
 
-fn write_target<W: Write>(out: &mut W, target: StopOption) -> io::Result<()> {
+// The lamps up, down and forward and the repositioning flag, as one digit.
+fn put_marks(
+    out: &mut [u8],
+    at: usize,
+    up: bool,
+    down: bool,
+    forward: bool,
+    reposition: bool,
+) -> usize {
+    put_number(
+        out,
+        at,
+        8 * bit(up) + 4 * bit(down) + 2 * bit(forward) + bit(reposition),
+    )
+}
+
+fn put_stop(out: &mut [u8], at: usize, stop: u8) -> usize {
+    put_digits(out, at, stop as u64, 2)
+}
+
+fn put_target(out: &mut [u8], at: usize, target: StopOption) -> usize {
     match target {
-        StopOption::NoStop => write!(out, "-"),
-        StopOption::Stop(stop) => write!(out, "{stop:02x}"),
+        StopOption::NoStop => put(out, at, b'-'),
+        StopOption::Stop(stop) => put_stop(out, at, stop),
     }
 }
 
 // 'd' and the destinations.
-fn write_destinations<W: Write>(out: &mut W, stops: &[u8]) -> io::Result<()> {
-    write!(out, "d")?;
-    for stop in stops {
-        write!(out, "{stop:02x}")?;
+fn put_destinations(out: &mut [u8], at: usize, queue: &[u8; 8], count: usize) -> usize {
+    let end = at_most(count, 8);
+    let mut to = put(out, at, b'd');
+    let mut i: usize = 0;
+    while i < end {
+        to = put_stop(out, to, queue[i]);
+        i += 1;
     }
-    Ok(())
+    to
 }
 
 // A command's code and ticks, five digits.
-fn write_command<W: Write>(out: &mut W, command: DoorCommand) -> io::Result<()> {
+fn put_command(out: &mut [u8], at: usize, queued: QueuedCommand) -> usize {
+    let command = queued.command;
     match command {
-        DoorCommand::Open => write!(out, "00000"),
-        DoorCommand::Close => write!(out, "10000"),
-        DoorCommand::HoldOpen { ticks } => write!(out, "{:05x}", 0x20000 + u64::from(ticks)),
-        DoorCommand::CancelHold => write!(out, "30000"),
+        DoorCommand::Open => put_digits(out, at, 0x00000, 5),
+        DoorCommand::Close => put_digits(out, at, 0x10000, 5),
+        DoorCommand::HoldOpen { ticks } => put_digits(out, at, 0x20000 + ticks as u64, 5),
+        DoorCommand::CancelHold => put_digits(out, at, 0x30000, 5),
     }
 }
 
 // 'q' and the door commands.
-fn write_commands<W: Write>(out: &mut W, queue: &[QueuedCommand]) -> io::Result<()> {
-    write!(out, "q")?;
-    for queued in queue {
-        write_command(out, queued.command)?;
+fn put_commands(out: &mut [u8], at: usize, queue: [QueuedCommand; 8], count: usize) -> usize {
+    let end = at_most(count, 8);
+    let mut to = put(out, at, b'q');
+    let mut i: usize = 0;
+    while i < end {
+        to = put_command(out, to, queue[i]);
+        i += 1;
     }
-    Ok(())
+    to
 }
 
-fn write_cooldown<W: Write>(out: &mut W, cooldown: TickOption) -> io::Result<()> {
+fn put_cooldown(out: &mut [u8], at: usize, cooldown: TickOption) -> usize {
     match cooldown {
-        TickOption::NoTick => write!(out, "-"),
-        TickOption::AtTick(tick) => write_number(out, tick),
+        TickOption::NoTick => put(out, at, b'-'),
+        TickOption::AtTick(tick) => put_number(out, at, tick),
     }
 }
 
 // Position, velocity, phase, door.
-fn write_motion<W: Write>(out: &mut W, car: &Car) -> io::Result<()> {
-    write!(out, "{:016x} ", bits(car.motion.position))?;
-    write!(out, "{:016x} ", bits(car.motion.velocity))?;
-    write_phase(out, car.phase)?;
-    write!(out, " ")?;
-    write_door(out, car.door)
+fn put_motion(out: &mut [u8], at: usize, car: Car) -> usize {
+    let phase = car.phase;
+    let door = car.door;
+    let mut to = put_float(out, at, car.motion.position);
+    to = put(out, to, b' ');
+    to = put_float(out, to, car.motion.velocity);
+    to = put(out, to, b' ');
+    to = put_phase(out, to, phase);
+    to = put(out, to, b' ');
+    put_door(out, to, door)
 }
 
 // Marks, target, destinations, door commands.
-fn write_work<W: Write>(out: &mut W, car: &Car) -> io::Result<()> {
-    write!(out, " {:x} ", marks(car))?;
-    write_target(out, car.target_stop)?;
-    write!(out, " ")?;
-    write_destinations(
+fn put_work(out: &mut [u8], at: usize, car: Car) -> usize {
+    let target = car.target_stop;
+    let destinations = car.destination_queue;
+    let commands = car.door_command_queue;
+    let mut to = put(out, at, b' ');
+    to = put_marks(
         out,
-        &car.destination_queue[..at_most(car.destination_count, 8)],
-    )?;
-    write!(out, " ")?;
-    write_commands(
-        out,
-        &car.door_command_queue[..at_most(car.command_count, 8)],
-    )
+        to,
+        car.going_up,
+        car.going_down,
+        car.going_forward,
+        car.repositioning,
+    );
+    to = put(out, to, b' ');
+    to = put_target(out, to, target);
+    to = put(out, to, b' ');
+    to = put_destinations(out, to, &destinations, car.destination_count);
+    to = put(out, to, b' ');
+    put_commands(out, to, commands, car.command_count)
 }
 
 // A car's line.
-fn write_car<W: Write>(out: &mut W, car: &Car) -> io::Result<()> {
-    write_motion(out, car)?;
-    write_work(out, car)?;
-    write!(out, " ")?;
-    write_number(out, car.move_count)?;
-    write!(out, " ")?;
-    write_cooldown(out, car.cooldown)?;
-    writeln!(out, "")
+fn put_car(out: &mut [u8], at: usize, car: Car) -> usize {
+    let cooldown = car.cooldown;
+    let mut to = put_motion(out, at, car);
+    to = put_work(out, to, car);
+    to = put(out, to, b' ');
+    to = put_number(out, to, car.move_count);
+    to = put(out, to, b' ');
+    to = put_cooldown(out, to, cooldown);
+    put(out, to, b'\n')
 }
 
-fn write_cars<W: Write>(out: &mut W, cars: &[Car]) -> io::Result<()> {
-    for car in cars {
-        write_car(out, car)?;
+fn put_cars(out: &mut [u8], at: usize, cars: [Car; 16], count: usize) -> usize {
+    let end = at_most(count, 16);
+    let mut to = at;
+    let mut i: usize = 0;
+    while i < end {
+        to = put_car(out, to, cars[i]);
+        i += 1;
     }
-    Ok(())
+    to
 }
 
 // Total moves, reposition distance, hall calls up and down.
-fn write_totals<W: Write>(out: &mut W, world: &World) -> io::Result<()> {
-    write_number(out, world.total_moves)?;
-    write!(out, " {:016x} ", bits(world.reposition_distance))?;
-    write_number(out, world.up_calls)?;
-    write!(out, " ")?;
-    write_number(out, world.down_calls)?;
-    writeln!(out, "")
+fn put_totals(out: &mut [u8], at: usize, world: World) -> usize {
+    let mut to = put_number(out, at, world.total_moves);
+    to = put(out, to, b' ');
+    to = put_float(out, to, world.reposition_distance);
+    to = put(out, to, b' ');
+    to = put_number(out, to, world.up_calls);
+    to = put(out, to, b' ');
+    to = put_number(out, to, world.down_calls);
+    put(out, to, b'\n')
 }
 
-// A tick's lines.
-pub fn write_tick<W: Write>(out: &mut W, words: &[u32], world: &World) -> io::Result<()> {
-    write_words(out, words)?;
-    write_cars(out, &world.cars[..at_most(world.car_count, 16)])?;
-    write_totals(out, world)
+// A tick's lines. A tick has less text than half the buffer.
+pub fn put_tick(out: &mut [u8], at: usize, log: &[u32], count: usize, world: World) -> usize {
+    let cars = world.cars;
+    let mut to = flush_half(out, at);
+    to = put_words(out, to, log, count);
+    to = put_cars(out, to, cars, world.car_count);
+    put_totals(out, to, world)
 }

@@ -1,0 +1,17 @@
+-- `examples_records::find` is safe and ends. Assumes nothing.
+use mathlib.Core.Path.{◌≡◌, refl}
+use Prim.Native.Nat.{◌-◌}
+use borrow.Author.Rules.{rules}
+use Rattle.examples_records.proofs.find.Goals as goal
+
+pub loop-i-init : goal.loop-i-init
+loop-i-init c = refl
+
+pub returns-then-text-i : goal.returns-then-text-i
+returns-then-text-i c = search rules
+
+pub loop-i-preserved : goal.loop-i-preserved
+loop-i-preserved c = refl
+
+pub returns : goal.returns
+returns c = search rules
