@@ -21,7 +21,7 @@ use Rattle.laws.proofs.Bools.{no, yes, holds}
 
 -- ---- what the format holds
 
-ordered : (k l : ℕ) → 2 ^ k ≤ 2 ^ l → k ≤ l
+pub ordered : (k l : ℕ) → 2 ^ k ≤ 2 ^ l → k ≤ l
 ordered k l h = go (leb k l) refl
   where
     go : (b : Bool) → leb k l ≡ b → k ≤ l
@@ -36,7 +36,7 @@ parts true false c d t = absurd t
 parts false b c d t = absurd t
 
 -- what `fits` says of a finite float that is not 0
-fitting : (s : Bool) (n : ℕ) (d : ℤ) → T (fits binary64 (fin s (suc n) d)) → T (ltb (suc n) (2 ^ 53)) × T (leb (down d) (2 ^ 1074)) × T (ltb (suc n * up d) (2 ^ 1024 * down d))
+pub fitting : (s : Bool) (n : ℕ) (d : ℤ) → T (fits binary64 (fin s (suc n) d)) → T (ltb (suc n) (2 ^ 53)) × T (leb (down d) (2 ^ 1074)) × T (ltb (suc n * up d) (2 ^ 1024 * down d))
 unfolding fits
 fitting s n d t = parts (eqb (suc n % 2) 1) (ltb (suc n) (2 ^ 53)) (leb (down d) (2 ^ 1074)) (ltb (suc n * up d) (2 ^ 1024 * down d)) t
 

@@ -5,6 +5,8 @@ ghost use Rattle.std.specs.Prelude.{◌≡◌};
 ghost use Rattle.float.specs.Float as Float;
 ghost use Rattle.float.specs.Float.{number_bits};
 
+mod remainder;
+
 // EPSILON of movement.rs and systems/movement.rs: `epsilon` of specs/Float.
 pub const EPSILON: f64 = 1e-9;
 
@@ -76,7 +78,7 @@ pub fn clamp(x: f64, min: f64, max: f64) -> f64
 pub fn rem_euclid(x: f64, rhs: f64) -> f64
     ensures { result ≡ Float.rem_euclid x rhs }
 {
-    let r = x % rhs;
+    let r = remainder::remainder(x, rhs);
     if r < 0.0 { r + abs(rhs) } else { r }
 }
 
