@@ -14,6 +14,6 @@ fn main() {
         println!("cargo:rustc-link-lib=static={name}");
         println!("cargo:rerun-if-changed={}/lib{name}.a", folder.display());
     }
-    // `%` on f64 calls fmod.
+    // The Rust's `%` on f64 calls fmod.
     println!("cargo:rustc-link-lib=m");
 }
