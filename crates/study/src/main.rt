@@ -3,7 +3,7 @@
 #![tactic(auto)]
 
 use laws::at_most;
-use pieces::{advance, begin};
+use pieces::{Study, advance, begin};
 use std::fmt;
 use std::io::{Read, Write};
 use std::process::ExitCode;
@@ -27,70 +27,105 @@ impl fmt::Display for Failure {
     }
 }
 
-// What is at hand of the input: so many bytes of the piece, and whether there is an end to it.
-#[derive(Clone, Copy)]
-struct AtHand {
-    held: usize,
-    ended: bool,
-}
-
-// Reads once, behind the bytes that are kept, where these may end within a record.
-fn with_read<R: Read>(
-    input: &mut R,
-    piece: &mut [u8; 16384],
-    at_hand: AtHand,
-) -> Result<AtHand, Failure> {
-    let held = at_hand.held;
-    if at_hand.ended || LONGEST <= held {
-        return Ok(at_hand);
-    }
-    match input.read(&mut piece[held..]) {
-        Ok(count) => Ok(AtHand {
-            held: held + count,
-            ended: count == 0,
-        }),
-        Err(_) => Err(Failure::Input),
-    }
-}
-
 // Writes the buffer's first bytes.
-fn write_out<W: Write>(output: &mut W, out: &[u8], at: usize) -> Result<(), Failure> {
+fn flush<W: Write>(output: &mut W, out: &[u8], at: usize) -> Result<(), Failure> {
     match output.write_all(&out[..at_most(at, out.len())]) {
         Ok(()) => Ok(()),
         Err(_) => Err(Failure::Output),
     }
 }
 
-// Rounds until the report, a refusal or a failure: more input where it is wanted, what is done with it, the text written out. No run makes more of them.
-fn run<R: Read, W: Write>(input: &mut R, output: &mut W) -> Result<(), Failure> {
+// What is at hand of the input: so many bytes of the piece, and whether there is an end to it.
+#[derive(Clone, Copy)]
+struct Input {
+    held: usize,
+    ended: bool,
+}
+
+// Reads once, behind the bytes that are kept.
+fn with_read<R: Read>(
+    source: &mut R,
+    piece: &mut [u8; 16384],
+    held: usize,
+) -> Result<Input, Failure> {
+    let from = at_most(held, piece.len());
+    match source.read(&mut piece[from..]) {
+        Ok(count) => Ok(Input {
+            held: from + count,
+            ended: count == 0,
+        }),
+        Err(_) => Err(Failure::Input),
+    }
+}
+
+// Reads once where the bytes that are kept may end within a record.
+fn with_input<R: Read>(
+    source: &mut R,
+    input: Input,
+    piece: &mut [u8; 16384],
+) -> Result<Input, Failure> {
+    if input.ended | (LONGEST <= input.held) {
+        return Ok(input);
+    }
+    with_read(source, piece, input.held)
+}
+
+// The study after a round, what is at hand of the input, and whether another round follows: none after the report or a refusal.
+#[derive(Clone, Copy)]
+struct Round {
+    study: Study,
+    input: Input,
+    goes_on: bool,
+}
+
+// A round: more input where it is wanted, what is done with it, the text written out.
+fn with_round<R: Read, W: Write>(
+    source: &mut R,
+    output: &mut W,
+    round: Round,
+    piece: &mut [u8; 16384],
+    log: &mut [u32; 2048],
+    out: &mut [u8; 65536],
+) -> Result<Round, Failure> {
+    let input = with_input(source, round.input, piece)?;
+    let made = advance(round.study, piece, input.held, input.ended, log, out);
+    flush(output, out, made.at)?;
+    Ok(Round {
+        study: made.study,
+        input: Input {
+            held: made.held,
+            ended: input.ended,
+        },
+        goes_on: !made.study.over,
+    })
+}
+
+// All rounds. No run makes more.
+fn run<R: Read, W: Write>(source: &mut R, output: &mut W) -> Result<(), Failure> {
     let mut piece = [0u8; 16384];
     let mut log = [0u32; 2048];
     let mut out = [0u8; 65536];
-    let mut study = begin();
-    let mut at_hand = AtHand {
-        held: 0,
-        ended: false,
+    let mut round = Round {
+        study: begin(),
+        input: Input {
+            held: 0,
+            ended: false,
+        },
+        goes_on: true,
     };
     for _ in 0..u64::MAX {
-        let AtHand { held, ended } = with_read(input, &mut piece, at_hand)?;
-        let made = advance(study, &mut piece, held, ended, &mut log, &mut out);
-        write_out(output, &out, made.at)?;
-        if made.study.over {
+        round = with_round(source, output, round, &mut piece, &mut log, &mut out)?;
+        if !round.goes_on {
             return Ok(());
         }
-        study = made.study;
-        at_hand = AtHand {
-            held: made.held,
-            ended,
-        };
     }
     Ok(())
 }
 
 fn main(rt: HostRuntime) -> ExitCode {
-    let mut input = rt.stdin();
+    let mut source = rt.stdin();
     let mut output = rt.stdout();
-    match run(&mut input, &mut output) {
+    match run(&mut source, &mut output) {
         Ok(()) => ExitCode::SUCCESS,
         Err(failure) => {
             // where standard error takes nothing, the status alone says it
