@@ -4,11 +4,9 @@ use Rattle.std.specs.Float.Ieee.{lt}
 use Rattle.world.specs.World.{stop_at, rider_at}
 use Rattle.world.specs.declared.Car.{Car}
 use Rattle.world.specs.declared.Rider.{Rider}
-use Rattle.world.specs.declared.CarOption.{CarOption}
-use Rattle.world.specs.declared.CarOption.TheVariants.{NoCar, OfCar}
+use Rattle.std.specs.declared.option.Option.{Option}
+use Rattle.std.specs.declared.option.Option.TheVariants.{None, Some}
 use Rattle.world.specs.declared.LineKind.{LineKind}
-use Rattle.world.specs.declared.StopOption.{StopOption}
-use Rattle.world.specs.declared.StopOption.TheVariants.{NoStop, Stop}
 use Rattle.steps.specs.Steps.{both_lit, unlit, lamps_of}
 use Rattle.world.specs.declared.Lamps.{Lamps}
 use Rattle.world.specs.declared.Queue.{Queue}
@@ -26,13 +24,13 @@ abbrev pub needing : Lamps → Float → Float → Lamps
 needing l position stop = cond (lt stop position) (lamps true l.going_down) (cond (lt position stop) (lamps l.going_up true) l)
 
 -- with a rider's destination, where it has one
-abbrev pub needing_stop : StopOption → Lamps → List Float → Float → Lamps
-needing_stop NoStop l stops stop = l
-needing_stop (Stop s) l stops stop = needing l (stop_at stops s) stop
+abbrev pub needing_stop : Option ℕ → Lamps → List Float → Float → Lamps
+needing_stop None l stops stop = l
+needing_stop (Some s) l stops stop = needing l (stop_at stops s) stop
 
-abbrev pub is_aboard : CarOption → ℕ → Bool
-is_aboard NoCar i = false
-is_aboard (OfCar car) i = eqb car i
+abbrev pub is_aboard : Option ℕ → ℕ → Bool
+is_aboard None i = false
+is_aboard (Some car) i = eqb car i
 
 -- "A rider counts for lamps by the car aboard and its destination"
 abbrev pub needing_rider : Rider → Lamps → List Float → ℕ → Float → Lamps

@@ -4,11 +4,10 @@
 ghost use Rattle.std.specs.Prelude.{◌≡◌, min};
 ghost use Rattle.arrival.specs.Arrival as Arrival;
 
-use laws::at_most;
 use lookup::stops::stop_position;
 use steps::lamps_of;
 use trips::{Trip, is_loop};
-use world::{Car, CarOption, Lamps, LineKind, Queue, Rider, StopOption};
+use world::{Car, Lamps, LineKind, Queue, Rider};
 
 // needs_up and needs_down with one more position.
 fn needing(lamps: Lamps, position: f64, stop: f64) -> Lamps
@@ -24,21 +23,21 @@ fn needing(lamps: Lamps, position: f64, stop: f64) -> Lamps
 }
 
 // With a rider's destination, where it has one.
-fn needing_stop(destination: StopOption, lamps: Lamps, stops: &[f64; 64], stop: f64) -> Lamps
+fn needing_stop(destination: Option<u8>, lamps: Lamps, stops: &[f64; 64], stop: f64) -> Lamps
     ensures { result ≡ Arrival.needing_stop destination lamps stops.now stop }
 {
     match destination {
-        StopOption::NoStop => lamps,
-        StopOption::Stop(s) => needing(lamps, stop_position(stops, s), stop),
+        None => lamps,
+        Some(s) => needing(lamps, stop_position(stops, s), stop),
     }
 }
 
-fn is_aboard(aboard: CarOption, number: u8) -> bool
+fn is_aboard(aboard: Option<u8>, number: u8) -> bool
     ensures { result ≡ Arrival.is_aboard aboard number }
 {
     match aboard {
-        CarOption::NoCar => false,
-        CarOption::OfCar(car) => car == number,
+        None => false,
+        Some(car) => car == number,
     }
 }
 
@@ -64,7 +63,7 @@ fn riders_need(
 ) -> Lamps
     ensures { result ≡ Arrival.riders_to riders stops.now number stop (min rider_count 128) }
 {
-    let count = at_most(rider_count, 128);
+    let count = rider_count.min(128);
     let mut lamps = Lamps {
         going_up: false,
         going_down: false,
@@ -82,7 +81,7 @@ fn riders_need(
 fn queue_needs(queue: Queue, stops: &[f64; 64], riders: Lamps, stop: f64) -> Lamps
     ensures { result ≡ Arrival.queued_to queue stops.now riders stop (min queue.count 8) }
 {
-    let count = at_most(queue.count, 8);
+    let count = queue.count.min(8);
     let mut lamps = riders;
     let mut n: usize = 0;
     while n < count {

@@ -1,7 +1,7 @@
 // Record calls for the bench: the first records of a tape, from the empty world on, and a sum over what they leave.
 #![tactic(auto)]
 
-ghost use Rattle.std.specs.Prelude.{◌≡◌};
+ghost use Rattle.std.specs.Prelude.{◌≡◌, Ok};
 ghost use Rattle.float.specs.Float.{number_bits};
 ghost use Rattle.record.specs.Record.{used_of, written_of};
 ghost use Rattle.laws.specs.Numbers.{plus};
@@ -9,7 +9,7 @@ ghost use Rattle.world.specs.World.{empty_world};
 ghost use Rattle.beside_ticks.specs.Bench as Bench;
 
 use lent::turn;
-use record::{Answer, Recorded, record};
+use record::{Accepted, Answer, Recorded, record};
 use std::num::wrapping_add_u64;
 use world::empty::empty;
 use world::{Car, World};
@@ -25,29 +25,23 @@ struct Played {
 fn used_of(answer: Answer) -> usize
     ensures { result ≡ used_of answer }
 {
-    match answer {
-        Answer::Accepted { used, written: _ } => used,
-        Answer::Refused(_) => 0,
-    }
+    answer.map_or(0, |accepted| accepted.used)
 }
 
 fn written_of(answer: Answer) -> usize
     ensures { result ≡ written_of answer }
 {
-    match answer {
-        Answer::Accepted { used: _, written } => written,
-        Answer::Refused(_) => 0,
-    }
+    answer.map_or(0, |accepted| accepted.written)
 }
 
 // Before the first record: the empty world, as from a record that used no word and wrote none.
 fn nothing() -> Recorded
-    ensures { (result.answer ≡ Answer.Accepted 0 0) × (result.world ≡ empty_world) }
+    ensures { (result.answer ≡ Ok (record { used = 0; written = 0 })) × (result.world ≡ empty_world) }
 {
-    let answer = Answer::Accepted {
+    let answer = Ok(Accepted {
         used: 0,
         written: 0,
-    };
+    });
     let world = empty();
     Recorded { answer, world }
 }

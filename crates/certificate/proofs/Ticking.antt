@@ -11,8 +11,8 @@ use Rattle.world.specs.World.{car_at}
 use Rattle.world.specs.declared.World.{World}
 use Rattle.world.specs.declared.Car.{Car}
 use Rattle.world.specs.declared.Motion.{Motion}
-use Rattle.world.specs.declared.StopOption.{StopOption}
-use Rattle.world.specs.declared.StopOption.TheVariants.{NoStop, Stop}
+use Rattle.std.specs.declared.option.Option.{Option}
+use Rattle.std.specs.declared.option.Option.TheVariants.{None, Some}
 use Rattle.log_words.specs.Words.{word_of}
 use Rattle.laws.specs.Numbers.{bit}
 use Rattle.log_words.specs.declared.Event.TheVariants.{TickMade}
@@ -56,18 +56,18 @@ doored_ran n w log = run_ran door_of Stands (λ c. refl) (λ a b c p q. q ∙ p)
 -- ---- the hall calls' words say nothing of a door
 
 module _ (i : ℕ) (o : Bool) where
-  match_told : (stop : StopOption) (n : ℕ) (j : JustOpened) (h : Standing) → Told i o o (clear_matching_words stop n j h)
+  match_told : (j : Option JustOpened) (n : ℕ) (h : Standing) → Told i o o (clear_matching_words j n h)
   unfolding clear_word
-  match_told NoStop n j h = told_none i o
-  match_told (Stop s) n j h =
+  match_told None n h = told_none i o
+  match_told (Some j) n h =
       told_join
-      (both (Told i o o) (clears h.up s j.going_up) (told_dull i o 9 n s (bit false) refl refl refl) (told_none i o))
-      (both (Told i o o) (clears h.down s j.going_down) (told_dull i o 9 n s (bit true) refl refl refl) (told_none i o))
+      (both (Told i o o) (clears h.up j.stop j.going_up) (told_dull i o 9 n j.stop (bit false) refl refl refl) (told_none i o))
+      (both (Told i o o) (clears h.down j.stop j.going_down) (told_dull i o 9 n j.stop (bit true) refl refl refl) (told_none i o))
 
-  calls_told : (os : List JustOpened) (h : Standing) (n : ℕ) → Told i o o (clear_words_to os h n)
+  calls_told : (os : List (Option JustOpened)) (h : Standing) (n : ℕ) → Told i o o (clear_words_to os h n)
   unfolding clear_words_to
   calls_told os h zero = told_none i o
-  calls_told os h (suc n) = told_join (calls_told os h n) (match_told (opened_of os h n).stop n (opened_of os h n) (clear_to os h n))
+  calls_told os h (suc n) = told_join (calls_told os h n) (match_told (opened_of os h n) n (clear_to os h n))
 
 -- ---- a tick
 
@@ -111,7 +111,7 @@ tick_ticks n w dt log full h = record {
     v : World
     v = (moved w dt).world
 
-    os : List JustOpened
+    os : List (Option JustOpened)
     os = (doored v).opened
 
     begun : List ℕ

@@ -16,8 +16,8 @@ use Rattle.world.specs.declared.Car.{Car}
 use Rattle.world.specs.declared.QueuedCommand.{QueuedCommand}
 use Rattle.world.specs.declared.ElevatorPhase.{ElevatorPhase}
 use Rattle.world.specs.declared.ElevatorPhase.TheVariants.{Idle, MovingToStop, Repositioning, DoorOpening, Loading, DoorClosing, Stopped}
-use Rattle.world.specs.declared.StopOption.{StopOption}
-use Rattle.world.specs.declared.StopOption.TheVariants.{NoStop, Stop}
+use Rattle.std.specs.declared.option.Option.{Option}
+use Rattle.std.specs.declared.option.Option.TheVariants.{None, Some}
 use Rattle.log_words.specs.Words.{word, code_of, ticks_of}
 use Rattle.laws.specs.Numbers.{bit}
 use Rattle.steps.specs.Steps.{is_manual, is_inspection, lamps_of, both_lit, unlit, update_indicators}
@@ -150,15 +150,15 @@ words_told n o c at traversing i (suc m) =
 
 -- ---- the door's tick
 
-departed_told : (n : ℕ) (o : Bool) (s : StopOption) (i : ℕ) → Told n o o (departed_from s i)
-departed_told n o NoStop i = told_none n o
-departed_told n o (Stop s) i = told_dull n o 8 i s 0 refl refl refl
+departed_told : (n : ℕ) (o : Bool) (s : Option ℕ) (i : ℕ) → Told n o o (departed_from s i)
+departed_told n o None i = told_none n o
+departed_told n o (Some s) i = told_dull n o 8 i s 0 refl refl refl
 
 -- the words of a car whose door has closed, by the first
-closed_told : {n : ℕ} {o o' : Bool} (i : ℕ) (c : Car) (k : Work) (next : StopOption) (d : DoorState) → Told n o o' (word 7 i 0 0 ∷ [])
+closed_told : {n : ℕ} {o o' : Bool} (i : ℕ) (c : Car) (k : Work) (next : Option ℕ) (d : DoorState) → Told n o o' (word 7 i 0 0 ∷ [])
     → Told n o o' (finished_closing next i c k d).words
-closed_told {n} {o} {o'} i c k NoStop d t = told_join t (lamps_told n o' i (lamps_of c) both_lit)
-closed_told {n} {o} {o'} i c k (Stop s) d t = told_join t (told_join (lamps_told n o' i (lamps_of c) unlit) (departed_told n o' c.target_stop i))
+closed_told {n} {o} {o'} i c k None d t = told_join t (lamps_told n o' i (lamps_of c) both_lit)
+closed_told {n} {o} {o'} i c k (Some s) d t = told_join t (told_join (lamps_told n o' i (lamps_of c) unlit) (departed_told n o' c.target_stop i))
 
 module _ (i : ℕ) (low : i < 16) (c : Car) (tame : is_manual c.service_mode ≡ false) (k : Work) where
   abbrev Turns : Bool → Turn → Type 0
@@ -170,14 +170,14 @@ module _ (i : ℕ) (low : i < 16) (c : Car) (tame : is_manual c.service_mode ≡
   opened_good : (o : Bool) (od cd : ℕ) → Turns o (finished_opening i c k (Open od cd))
   opened_good o od cd = record { end = true; told = told_word i low 6 0 0 (λ h. no h) refl; fit = record { sound = loading; tame = tame } }
 
-  closed_good : (o : Bool) (next : StopOption) → Turns o (finished_closing next i c k Closed)
+  closed_good : (o : Bool) (next : Option ℕ) → Turns o (finished_closing next i c k Closed)
   closed_good o next = record { end = false; told = closed_told i c k next Closed (told_word i low 7 0 0 (λ h. no h) refl); fit = fit next }
     where
-      fit : (next : StopOption) → Fit (finished_closing next i c k Closed).car false
-      fit NoStop = record { sound = stopped; tame = tame }
-      fit (Stop s) = record { sound = moving; tame = tame }
+      fit : (next : Option ℕ) → Fit (finished_closing next i c k Closed).car false
+      fit None = record { sound = stopped; tame = tame }
+      fit (Some s) = record { sound = moving; tame = tame }
 
-  door_by_lem : (next : StopOption) (p : ElevatorPhase) (d : DoorState) (o : Bool) → Sound p d o → Turns o (door_by p d i c k next)
+  door_by_lem : (next : Option ℕ) (p : ElevatorPhase) (d : DoorState) (o : Bool) → Sound p d o → Turns o (door_by p d i c k next)
   door_by_lem next p d o idle = rests_good false Idle Closed idle
   door_by_lem next p d o stopped = rests_good false Stopped Closed stopped
   door_by_lem next p d o (moving {s}) = rests_good false (MovingToStop s) Closed moving
@@ -199,7 +199,7 @@ module _ (i : ℕ) (low : i < 16) (c : Car) (tame : is_manual c.service_mode ≡
 after_good : {i : ℕ} {o : Bool} {c : Car} {ws vs : List ℕ} → Told i o o ws → Good i o c vs → Good i o c (ws ++ vs)
 after_good p g = record { end = g.end; told = told_join p g.told; fit = g.fit }
 
-door_turn_lem : (i : ℕ) (low : i < 16) (c : Car) (at traversing : Bool) (next : StopOption) (o : Bool) → Fit c o
+door_turn_lem : (i : ℕ) (low : i < 16) (c : Car) (at traversing : Bool) (next : Option ℕ) (o : Bool) → Fit c o
     → Good i o (door_turn i c at traversing next).car (door_turn i c at traversing next).words
 unfolding command_words
 door_turn_lem i low c at traversing next o f =
@@ -214,7 +214,7 @@ unfolding door_of
 door_good w i o low f = door_turn_lem i low (car_at w.cars i) _ _ _ o f
 
 -- the words of a car's turn say nothing of another
-turn_silent : (i n : ℕ) → i < 16 → (n ≡ i → ⊥) → (c : Car) (at traversing : Bool) (next : StopOption) → Silent n (door_turn i c at traversing next).words
+turn_silent : (i n : ℕ) → i < 16 → (n ≡ i → ⊥) → (c : Car) (at traversing : Bool) (next : Option ℕ) → Silent n (door_turn i c at traversing next).words
 unfolding command_words
 turn_silent i n low other c at traversing next o =
     let k : Work = process_door_commands c at traversing in
@@ -222,8 +222,8 @@ turn_silent i n low other c at traversing next o =
     let none : (d : DoorState) → Told n o o [] = λ d. told_none n o in
     both Says c.enabled
     (told_join (words_told n o c at traversing i (min c.command_count 8))
-    (door_cases Says i c k next none (λ d. told_other n i low other 6 0 0 o) none (λ d. closed_told i c k NoStop d (told_other n i low other 7 0 0 o))
-    (λ s d e. closed_told i c k (Stop s) d (told_other n i low other 7 0 0 o))))
+    (door_cases Says i c k next none (λ d. told_other n i low other 6 0 0 o) none (λ d. closed_told i c k None d (told_other n i low other 7 0 0 o))
+    (λ s d e. closed_told i c k (Some s) d (told_other n i low other 7 0 0 o))))
     (told_none n o)
 
 pub door_silent : (w : World) (i n : ℕ) → i < 16 → (n ≡ i → ⊥) → Silent n (door_of w i).words
@@ -231,7 +231,7 @@ unfolding door_of
 door_silent w i n low other = turn_silent i n low other (car_at w.cars i) _ _ _
 
 -- no turn of the doors moves a car
-turn_stands : (i : ℕ) (c : Car) (at traversing : Bool) (next : StopOption) → (door_turn i c at traversing next).car.motion ≡ c.motion
+turn_stands : (i : ℕ) (c : Car) (at traversing : Bool) (next : Option ℕ) → (door_turn i c at traversing next).car.motion ≡ c.motion
 turn_stands i c at traversing next =
     let Stands : Turn → Type 0 = λ t. t.car.motion ≡ c.motion in
     both Stands c.enabled

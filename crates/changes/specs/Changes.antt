@@ -1,5 +1,5 @@
 -- What the state says of a record: a refusal, or the world after it. Kind D, the start.
-use Rattle.std.specs.Prelude.{Bool, true, not, ◌||◌, List, [], ◌∷◌, ℕ, leb, eqb}
+use Rattle.std.specs.Prelude.{Ok, Err, Bool, true, not, ◌||◌, List, [], ◌∷◌, ℕ, leb, eqb}
 use Rattle.world.specs.With.{with_plan}
 use Rattle.sound_rows.specs.Rows.{unloaded}
 use Rattle.world.specs.Refusal.{Check, check, unless}
@@ -7,14 +7,13 @@ use Rattle.world.specs.declared.World.{World}
 use Rattle.world.specs.declared.refusal.Refusal.{Refusal}
 use Rattle.world.specs.declared.refusal.Refusal.TheVariants.{NotNow}
 use Rattle.changes.specs.declared.Changed.{Changed}
-use Rattle.changes.specs.declared.Taken.TheVariants.{Accepted, Refused}
 
 -- the world unchanged
 abbrev pub refused : World → Refusal → Changed
-refused w r = record { taken = Refused r; world = w }
+refused w r = record { taken = Err r; world = w }
 
 abbrev pub accepted : World → Changed
-accepted w = record { taken = Accepted; world = w }
+accepted w = record { taken = Ok tt; world = w }
 
 -- 7: a number that is not the next unused one of a table of that size; a full table has none
 abbrev pub not_next : ℕ → ℕ → ℕ → Bool

@@ -10,17 +10,10 @@ use sound_rows::unloaded;
 use world::refusal::Refusal;
 use world::{Car, World};
 
-// What the state says of a record.
-#[derive(Clone, Copy)]
-pub enum Taken {
-    Accepted,
-    Refused(Refusal),
-}
-
-// What it says, and the world after it: on a refusal the one that was given.
+// What the state says of a record, and the world after it: on a refusal the one that was given.
 #[derive(Clone, Copy)]
 pub struct Changed {
-    pub taken: Taken,
+    pub taken: Result<(), Refusal>,
     pub world: World,
 }
 
@@ -29,7 +22,7 @@ pub fn refused(world: World, refusal: Refusal) -> Changed
     ensures { result ≡ Changes.refused world refusal }
 {
     Changed {
-        taken: Taken::Refused(refusal),
+        taken: Err(refusal),
         world,
     }
 }
@@ -38,16 +31,9 @@ pub fn accepted(world: World) -> Changed
     ensures { result ≡ Changes.accepted world }
 {
     Changed {
-        taken: Taken::Accepted,
+        taken: Ok(()),
         world,
     }
-}
-
-// What hinders an order to a car that is there.
-#[derive(Clone, Copy)]
-pub enum Hindered {
-    No,
-    By(Refusal),
 }
 
 // The row of a car; past the table, that of car 0.
@@ -65,7 +51,7 @@ pub fn row_of(world: World, car: u8) -> Car
 
 // What every order to a car comes to: refused before the start, where the car or what else it names is not loaded, and where something hinders it; else
 // the car is as ordered.
-pub fn ordered(world: World, car: u8, unnamed: bool, hindered: Hindered, row: Car) -> Changed
+pub fn ordered(world: World, car: u8, unnamed: bool, hindered: Option<Refusal>, row: Car) -> Changed
     ensures { result ≡ Parts.ordered world car unnamed hindered row }
 {
     if !world.started {
@@ -79,8 +65,8 @@ pub fn ordered(world: World, car: u8, unnamed: bool, hindered: Hindered, row: Ca
         return refused(world, Refusal::NotLoaded);
     }
     match hindered {
-        Hindered::By(refusal) => refused(world, refusal),
-        Hindered::No => {
+        Some(refusal) => refused(world, refusal),
+        None => {
             let mut next = world;
             next.cars[at] = row;
             accepted(next)

@@ -43,8 +43,8 @@ use Rattle.tick.specs.Tick.{tick_words}
 use Rattle.tick.specs.Room.{room_of, WordsFit}
 use Rattle.tick.proofs.Proved.{words_fit}
 use Rattle.record_kinds.specs.Kinds.{change_by}
-use Rattle.record.specs.declared.Answer.{Answer}
-use Rattle.record.specs.declared.Answer.TheVariants.{Refused}
+use Rattle.record.specs.Record.{Answer}
+use Rattle.std.specs.Prelude.{Ok, Err}
 use Rattle.record.specs.Record.{Outcome, is_accepted, accepted, refused, changed, checks_of_tick, ticked, tick_once, read_by, record_of}
 use Rattle.conditions.specs.Conditions.{Kept, FirstCondition}
 
@@ -86,7 +86,7 @@ conditions w words log =
 -- the answer is the refusal of the first condition that holds; where none holds the record is accepted
 unfoldable pub Answers : List Check → Answer → Type 0
 Answers [] a = is_accepted a ≡ true
-Answers (c ∷ cs) a = ((c.holds ≡ true) × (a ≡ Refused c.refusal)) ⊎ ((c.holds ≡ false) × Answers cs a)
+Answers (c ∷ cs) a = ((c.holds ≡ true) × (a ≡ Err c.refusal)) ⊎ ((c.holds ≡ false) × Answers cs a)
 
 unfoldable pub OnItsCondition : Type 0
 OnItsCondition = (w : World) (words log : List ℕ) → Answers (conditions w words log) (record_of w words log).answer
@@ -95,7 +95,7 @@ OnItsCondition = (w : World) (words log : List ℕ) → Answers (conditions w wo
 
 -- checks before others: the first that holds refuses; else it is answered as by what follows
 unless_answers : {A : Type 0} (answer : A → Answer) (cs ds : List Check) (refused : Refusal → A) (next : A)
-    → ((r : Refusal) → answer (refused r) ≡ Refused r) → Answers ds (answer next) → Answers (cs ++ ds) (answer (unless cs refused next))
+    → ((r : Refusal) → answer (refused r) ≡ Err r) → Answers ds (answer next) → Answers (cs ++ ds) (answer (unless cs refused next))
 unfolding Answers
 unless_answers answer [] ds refused next e h = h
 unless_answers {A} answer (c ∷ cs) ds refused next e h =

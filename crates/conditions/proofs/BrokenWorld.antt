@@ -23,10 +23,8 @@ use Rattle.world.specs.declared.ElevatorPhase.{ElevatorPhase}
 use Rattle.world.specs.declared.ElevatorPhase.TheVariants.{Idle, MovingToStop, Repositioning, DoorOpening, Loading, DoorClosing, Stopped}
 use Rattle.world.specs.declared.RiderPhase.{RiderPhase}
 use Rattle.world.specs.declared.RiderPhase.TheVariants.{Waiting, Boarding, Riding, Exiting, Walking, Arrived, Abandoned, Resident}
-use Rattle.world.specs.declared.StopOption.{StopOption}
-use Rattle.world.specs.declared.StopOption.TheVariants.{NoStop, Stop}
-use Rattle.world.specs.declared.CarOption.{CarOption}
-use Rattle.world.specs.declared.CarOption.TheVariants.{NoCar, OfCar}
+use Rattle.std.specs.declared.option.Option.{Option}
+use Rattle.std.specs.declared.option.Option.TheVariants.{None, Some}
 use Rattle.conditions.specs.Refusals.{Broken, stops_above, lines_above, cars_above, riders_above, list_above, ticks_above, destinations_above, commands_above, total_high, moves_high, listed_unloaded, line_unloaded, moving_unloaded, repositioning_unloaded, target_unloaded, queued_unloaded, route_unloaded, boarding_unloaded, riding_unloaded, exiting_unloaded, aboard_unloaded, up_unloaded, down_unloaded}
 use Rattle.conditions.proofs.Deciding.{Decides, less, most, through, never, ◌or◌, Some, any}
 
@@ -125,29 +123,29 @@ rider_phase_decided cars Arrived = never (λ x. no (has_car Arrived x.0 x.1))
 rider_phase_decided cars Abandoned = never (λ x. no (has_car Abandoned x.0 x.1))
 rider_phase_decided cars Resident = never (λ x. no (has_car Resident x.0 x.1))
 
-abbrev is_stop : StopOption → Bool
-is_stop NoStop = false
-is_stop (Stop stop) = true
+abbrev is_stop : Option ℕ → Bool
+is_stop None = false
+is_stop (Some stop) = true
 
-abbrev stop_in : StopOption → ℕ
-stop_in NoStop = 0
-stop_in (Stop stop) = stop
+abbrev stop_in : Option ℕ → ℕ
+stop_in None = 0
+stop_in (Some stop) = stop
 
-stop_decided : (stops : ℕ) (o : StopOption) → Decides (Held stops (λ stop. o ≡ Stop stop)) (stop_unloaded stops o)
-stop_decided stops NoStop = never (λ x. no (ap is_stop x.1))
-stop_decided stops (Stop stop) = holding stops {P = λ k. Stop stop ≡ Stop k} stop refl (λ k e. ap stop_in e)
+stop_decided : (stops : ℕ) (o : Option ℕ) → Decides (Held stops (λ stop. o ≡ Some stop)) (stop_unloaded stops o)
+stop_decided stops None = never (λ x. no (ap is_stop x.1))
+stop_decided stops (Some stop) = holding stops {P = λ k. Some stop ≡ Some k} stop refl (λ k e. ap stop_in e)
 
-abbrev is_car : CarOption → Bool
-is_car NoCar = false
-is_car (OfCar car) = true
+abbrev is_car : Option ℕ → Bool
+is_car None = false
+is_car (Some car) = true
 
-abbrev aboard_in : CarOption → ℕ
-aboard_in NoCar = 0
-aboard_in (OfCar car) = car
+abbrev aboard_in : Option ℕ → ℕ
+aboard_in None = 0
+aboard_in (Some car) = car
 
-car_decided : (cars : ℕ) (o : CarOption) → Decides (Held cars (λ car. o ≡ OfCar car)) (car_unloaded cars o)
-car_decided cars NoCar = never (λ x. no (ap is_car x.1))
-car_decided cars (OfCar car) = holding cars {P = λ k. OfCar car ≡ OfCar k} car refl (λ k e. ap aboard_in e)
+car_decided : (cars : ℕ) (o : Option ℕ) → Decides (Held cars (λ car. o ≡ Some car)) (car_unloaded cars o)
+car_decided cars None = never (λ x. no (ap is_car x.1))
+car_decided cars (Some car) = holding cars {P = λ k. Some car ≡ Some k} car refl (λ k e. ap aboard_in e)
 
 -- ---- hall calls: the set is 2 to the count of stops or more exactly where it has a stop that is not loaded
 
@@ -195,7 +193,7 @@ line_decided stops l = less 64 l.serves_count or any (λ i. most stops (get_or l
 abbrev InCar : ℕ → ℕ → Car → Type 0
 InCar lines stops c =
     ((((((8 < c.destination_count) ⊎ (8 < c.command_count)) ⊎ (2 ^ 48 ≤ c.move_count)) ⊎ (lines ≤ c.line)) ⊎ Held stops (InPhase c.phase))
-    ⊎ Held stops (λ stop. c.target_stop ≡ Stop stop))
+    ⊎ Held stops (λ stop. c.target_stop ≡ Some stop))
     ⊎ Some c.destination_count (λ i. stops ≤ get_or c.destination_queue i 0)
 
 car_row_decided : (lines stops : ℕ) (c : Car) → Decides (InCar lines stops c) (car_broken lines stops c)
@@ -207,7 +205,7 @@ car_row_decided lines stops c =
 
 abbrev InRow : ℕ → ℕ → Rider → Type 0
 InRow stops cars r =
-    (Held stops (λ stop. r.destination ≡ Stop stop) ⊎ Held cars (InRider r.phase)) ⊎ Held cars (λ car. r.aboard ≡ OfCar car)
+    (Held stops (λ stop. r.destination ≡ Some stop) ⊎ Held cars (InRider r.phase)) ⊎ Held cars (λ car. r.aboard ≡ Some car)
 
 rider_decided : (stops cars : ℕ) (r : Rider) → Decides (InRow stops cars r) (rider_broken stops cars r)
 unfolding rider_broken

@@ -25,8 +25,7 @@ use Rattle.world.specs.declared.LineKind.{LineKind}
 use Rattle.world.specs.declared.ElevatorPhase.{ElevatorPhase}
 use Rattle.world.specs.declared.ElevatorPhase.TheVariants.{Idle, MovingToStop, Repositioning, DoorOpening, Loading, DoorClosing, Stopped}
 use Rattle.world.specs.declared.RiderPhase.{RiderPhase}
-use Rattle.world.specs.declared.StopOption.{StopOption}
-use Rattle.world.specs.declared.CarOption.{CarOption}
+use Rattle.std.specs.declared.option.Option.{Option}
 use Rattle.tape_records.specs.Answers as Ranges
 use Rattle.tape_records.specs.Answers.{Deed}
 use Rattle.tape_loads.specs.LoadRecords.{serves_count, serves_outside, serves_to, line_fields_outside, line_floats_outside, line_kind_of, line_record, stop_record, car_record, rider_record, rider_phase, stop_option, car_option}
@@ -183,13 +182,13 @@ list_decided stops words count k b f = through to back (line_decided stops (line
 
 stop_option_lem : (stops stop : ℕ) → ((63 < stop) × (stop ≡ 65535 → ⊥) → ⊥) → Decides ((stop ≡ 65535 → ⊥) × (stops ≤ stop)) (stop_unloaded stops (stop_option stop))
 stop_option_lem stops stop fit =
-    cases (λ (o : StopOption). Decides ((stop ≡ 65535 → ⊥) × (stops ≤ stop)) (stop_unloaded stops o)) (ltb stop 64)
+    cases (λ (o : Option ℕ). Decides ((stop ≡ 65535 → ⊥) × (stops ≤ stop)) (stop_unloaded stops o)) (ltb stop 64)
     (λ e. through (λ h. ((λ q. omega (arith, ltb-true stop 64 e, q)), h)) (λ p. p.1) (most stops stop))
     (λ e. never (λ p. fit (omega (arith, ltb-false stop 64 e), p.0)))
 
 car_option_lem : (cars car : ℕ) → Decides ((car ≡ 255 → ⊥) × (cars ≤ car)) (car_unloaded cars (car_option car))
 car_option_lem cars car =
-    cases (λ (o : CarOption). Decides ((car ≡ 255 → ⊥) × (cars ≤ car)) (car_unloaded cars o)) (eqb car 255)
+    cases (λ (o : Option ℕ). Decides ((car ≡ 255 → ⊥) × (cars ≤ car)) (car_unloaded cars o)) (eqb car 255)
     (λ e. never (λ p. p.0 (eqb-true car 255 e)))
     (λ e. through (λ h. (eqb-false car 255 e, h)) (λ p. p.1) (most cars car))
 

@@ -14,11 +14,10 @@ use Rattle.world.specs.Refusal.{Check, check, unless, refusal_number}
 use Rattle.world.specs.declared.World.{World}
 use Rattle.world.specs.declared.refusal.Refusal.{Refusal}
 use Rattle.world.specs.declared.refusal.Refusal.TheVariants as Refusal
-use Rattle.record.specs.declared.Answer.{Answer}
-use Rattle.record.specs.declared.Answer.TheVariants.{Accepted, Refused}
+use Rattle.record.specs.Record.{Answer}
+use Rattle.std.specs.Prelude.{Ok, Err}
 use Rattle.record.specs.Record.{is_accepted, record_of}
-use Rattle.report.specs.declared.Reported.{Reported}
-use Rattle.report.specs.declared.Reported.TheVariants as Reported
+use Rattle.report.specs.Report.{Reported}
 use Rattle.report.specs.Report.{any_unknown, counts_of, totals_of, counted_report, report_of}
 use Rattle.conditions.specs.Refusals.{Broken, NoWord, LogKind, kind_unknown, place, places, report_places, Verdict, taken, refused, verdict, report_verdict, ByPlaces, GivenOnItsCondition}
 use Rattle.conditions.proofs.Answering.{Answers, conditions, OnItsCondition, on_its_condition}
@@ -30,8 +29,8 @@ use Rattle.conditions.proofs.ByKind.{from_kind, kinds_read}
 -- ---- the record call
 
 accepted_taken : (a : Answer) → is_accepted a ≡ true → verdict a ≡ taken
-accepted_taken (Accepted used written) e = refl
-accepted_taken (Refused r) e = no e
+accepted_taken (Ok a) e = refl
+accepted_taken (Err r) e = no e
 
 says : (cs : List Check) (a : Answer) → Answers cs a → Says cs (verdict a)
 unfolding Answers
@@ -91,7 +90,7 @@ report_given w log =
     let x = report_verdict (report_of w log) in
     let cs = check Refusal.BrokenWorld (broken w) ∷ check Refusal.LogKind (any_unknown log) ∷ [] in
     let reads : Read x cs (report_places w log) = asked x refl (broken_decided w) λ n0. asked x refl (log_decided log) λ n5. done x in
-    reads.read (unless_says report_verdict cs Reported.Refused (Reported.Counted (totals_of w (counts_of log))) (λ r. refl) refl)
+    reads.read (unless_says report_verdict cs Err (Ok (totals_of w (counts_of log))) (λ r. refl) refl)
 
 pub given_on_its_condition : GivenOnItsCondition
 given_on_its_condition = record {

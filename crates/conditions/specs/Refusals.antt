@@ -14,13 +14,11 @@ use Rattle.world.specs.Refusal.{refusal_number}
 use Rattle.world.specs.declared.World.{World}
 use Rattle.world.specs.declared.ElevatorPhase.TheVariants.{Idle, MovingToStop, Repositioning, Stopped}
 use Rattle.world.specs.declared.RiderPhase.TheVariants.{Boarding, Riding, Exiting}
-use Rattle.world.specs.declared.StopOption.TheVariants.{Stop}
-use Rattle.world.specs.declared.CarOption.TheVariants.{OfCar}
-use Rattle.record.specs.declared.Answer.{Answer}
-use Rattle.record.specs.declared.Answer.TheVariants.{Accepted, Refused}
+use Rattle.std.specs.declared.option.Option.TheVariants.{Some}
+use Rattle.record.specs.Record.{Answer}
+use Rattle.std.specs.Prelude.{Ok, Err}
 use Rattle.record.specs.Record.{record_of}
-use Rattle.report.specs.declared.Reported.{Reported}
-use Rattle.report.specs.declared.Reported.TheVariants as Reported
+use Rattle.report.specs.Report.{Reported}
 use Rattle.report.specs.Report.{report_of}
 
 -- ---- what the words of a record say
@@ -129,14 +127,14 @@ pub data Broken (w : World) : Type 0 where
       (c stop : ℕ) → c < w.car_count → (car_at w.cars c).phase ≡ Repositioning stop → w.stop_count ≤ stop
       → Broken w
   target_unloaded :
-      (c stop : ℕ) → c < w.car_count → (car_at w.cars c).target_stop ≡ Stop stop → w.stop_count ≤ stop
+      (c stop : ℕ) → c < w.car_count → (car_at w.cars c).target_stop ≡ Some stop → w.stop_count ≤ stop
       → Broken w
   queued_unloaded :
       (c i : ℕ) → c < w.car_count → i < (car_at w.cars c).destination_count
       → w.stop_count ≤ get_or (car_at w.cars c).destination_queue i 0 → Broken w
   -- a rider's destination, the car of its phase, the car aboard
   route_unloaded :
-      (r stop : ℕ) → r < w.rider_count → (rider_at w.riders r).destination ≡ Stop stop → w.stop_count ≤ stop
+      (r stop : ℕ) → r < w.rider_count → (rider_at w.riders r).destination ≡ Some stop → w.stop_count ≤ stop
       → Broken w
   boarding_unloaded :
       (r c : ℕ) → r < w.rider_count → (rider_at w.riders r).phase ≡ Boarding c → w.car_count ≤ c → Broken w
@@ -145,7 +143,7 @@ pub data Broken (w : World) : Type 0 where
   exiting_unloaded :
       (r c : ℕ) → r < w.rider_count → (rider_at w.riders r).phase ≡ Exiting c → w.car_count ≤ c → Broken w
   aboard_unloaded :
-      (r c : ℕ) → r < w.rider_count → (rider_at w.riders r).aboard ≡ OfCar c → w.car_count ≤ c → Broken w
+      (r c : ℕ) → r < w.rider_count → (rider_at w.riders r).aboard ≡ Some c → w.car_count ≤ c → Broken w
   -- the stop of a hall call
   up_unloaded : (stop : ℕ) → w.stop_count ≤ stop → called w.up_calls stop ≡ true → Broken w
   down_unloaded : (stop : ℕ) → w.stop_count ≤ stop → called w.down_calls stop ≡ true → Broken w
@@ -349,12 +347,12 @@ pub data Verdict : Type 0 where
   refused : ℕ → Verdict
 
 abbrev pub verdict : Answer → Verdict
-verdict (Accepted used written) = taken
-verdict (Refused r) = refused (refusal_number r)
+verdict (Ok a) = taken
+verdict (Err r) = refused (refusal_number r)
 
 abbrev pub report_verdict : Reported → Verdict
-report_verdict (Reported.Counted totals) = taken
-report_verdict (Reported.Refused r) = refused (refusal_number r)
+report_verdict (Ok totals) = taken
+report_verdict (Err r) = refused (refusal_number r)
 
 -- "A refusal is given on its condition and on no other"
 pub record ByPlaces (ps : List Place) (x : Verdict) : Type 0 where

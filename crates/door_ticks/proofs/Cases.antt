@@ -4,11 +4,11 @@ use Prim.Native.Nat.{ℕ}
 use Rattle.door.specs.Door.{tick}
 use Rattle.door.specs.declared.DoorState.{DoorState}
 use Rattle.door.specs.declared.DoorTransition.{DoorTransition}
-use Rattle.door.specs.declared.DoorTransition.TheVariants.{None, FinishedOpening, FinishedOpen, FinishedClosing}
+use Rattle.door.specs.declared.DoorTransition.TheVariants as Transition
 use Rattle.world.specs.declared.Car.{Car}
 use Rattle.world.specs.declared.ElevatorPhase.TheVariants.{DoorClosing}
-use Rattle.world.specs.declared.StopOption.{StopOption}
-use Rattle.world.specs.declared.StopOption.TheVariants.{NoStop, Stop}
+use Rattle.std.specs.declared.option.Option.{Option}
+use Rattle.std.specs.declared.option.Option.TheVariants.{None, Some}
 use Rattle.laws.proofs.Choices.{both}
 use Rattle.door_commands.specs.declared.Work.{Work}
 use Rattle.door_ticks.specs.Ticks.{Turn, rests, finished_opening, finished_closing, finish_by, stays, door_by}
@@ -18,22 +18,22 @@ module _
     (i : ℕ)
     (c : Car)
     (k : Work)
-    (next : StopOption)
+    (next : Option ℕ)
     (waits : (d : DoorState) → P (rests c k k.phase d))
     (opened : (d : DoorState) → P (finished_opening i c k d))
     (closing : (d : DoorState) → P (rests c k DoorClosing d))
-    (stops : (d : DoorState) → P (finished_closing NoStop i c k d))
-    (departs : (s : ℕ) (d : DoorState) → next ≡ Stop s → P (finished_closing (Stop s) i c k d))
+    (stops : (d : DoorState) → P (finished_closing None i c k d))
+    (departs : (s : ℕ) (d : DoorState) → next ≡ Some s → P (finished_closing (Some s) i c k d))
   where
-    closed : (n : StopOption) (d : DoorState) → next ≡ n → P (finished_closing n i c k d)
-    closed NoStop d e = stops d
-    closed (Stop s) d e = departs s d e
+    closed : (n : Option ℕ) (d : DoorState) → next ≡ n → P (finished_closing n i c k d)
+    closed None d e = stops d
+    closed (Some s) d e = departs s d e
 
     finished : (t : DoorTransition) (d : DoorState) → P (finish_by t k.phase d i c k next)
-    finished None d = waits d
-    finished FinishedOpening d = opened d
-    finished FinishedOpen d = closing d
-    finished FinishedClosing d = closed next d refl
+    finished Transition.None d = waits d
+    finished Transition.FinishedOpening d = opened d
+    finished Transition.FinishedOpen d = closing d
+    finished Transition.FinishedClosing d = closed next d refl
 
     pub door_cases : P (door_by k.phase k.door i c k next)
     door_cases = both P (stays k.phase k.door c) (waits k.door) (finished (tick k.door).transition (tick k.door).door)

@@ -3,12 +3,13 @@ use Rattle.std.specs.Prelude.{◌≡◌, Bool, true, false, not, ◌&&◌, ◌||
 use Rattle.door.specs.Door.{is_closed, is_open, tick}
 use Rattle.door.specs.declared.DoorState.{DoorState}
 use Rattle.door.specs.declared.DoorTransition.{DoorTransition}
-use Rattle.door.specs.declared.DoorTransition.TheVariants.{None, FinishedOpening, FinishedOpen, FinishedClosing}
+use Rattle.door.specs.declared.DoorTransition.TheVariants as Transition
+use Rattle.door.specs.declared.DoorTransition.TheVariants.{FinishedOpening, FinishedOpen, FinishedClosing}
 use Rattle.world.specs.declared.Car.{Car}
 use Rattle.world.specs.declared.ElevatorPhase.{ElevatorPhase}
 use Rattle.world.specs.declared.ElevatorPhase.TheVariants.{Idle, MovingToStop, Repositioning, DoorOpening, Loading, DoorClosing, Stopped}
-use Rattle.world.specs.declared.StopOption.{StopOption}
-use Rattle.world.specs.declared.StopOption.TheVariants.{NoStop, Stop}
+use Rattle.std.specs.declared.option.Option.{Option}
+use Rattle.std.specs.declared.option.Option.TheVariants.{None, Some}
 use Rattle.log_words.specs.Words.{word_of}
 use Rattle.log_writes.specs.Log.{Wrote}
 use Rattle.log_words.specs.declared.Event.TheVariants.{DoorOpened, DoorClosed, ElevatorDeparted}
@@ -31,9 +32,9 @@ is_door_opening Stopped = false
 pub record Turn : Type 0 where
   pub car : Car
   pub words : List ℕ
-  pub opened : JustOpened
+  pub opened : Option JustOpened
 
-abbrev pub turned : Car → List ℕ → JustOpened → Turn
+abbrev pub turned : Car → List ℕ → Option JustOpened → Turn
 turned c words opened = record { car = c; words = words; opened = opened }
 
 -- the car as its commands left it, with a phase and a door
@@ -44,25 +45,25 @@ abbrev pub rests : Car → Work → ElevatorPhase → DoorState → Turn
 rests c k phase door = turned (rested c k phase door) [] not_opened
 
 -- run, FinishedOpening: what goes into just_opened
-abbrev pub opened_at : StopOption → Car → JustOpened
-opened_at NoStop c = not_opened
-opened_at (Stop s) c = record { stop = Stop s; going_up = c.going_up; going_down = c.going_down }
+abbrev pub opened_at : Option ℕ → Car → Option JustOpened
+opened_at None c = None
+opened_at (Some s) c = Some (record { stop = s; going_up = c.going_up; going_down = c.going_down })
 
 -- run, FinishedClosing on a loop: the word of where the car departed from
-abbrev pub departed_from : StopOption → ℕ → List ℕ
-departed_from NoStop i = []
-departed_from (Stop s) i = word_of (ElevatorDeparted i s) ∷ []
+abbrev pub departed_from : Option ℕ → ℕ → List ℕ
+departed_from None i = []
+departed_from (Some s) i = word_of (ElevatorDeparted i s) ∷ []
 
 -- run, FinishedClosing: by the loop's next stop
-abbrev pub finished_closing : StopOption → ℕ → Car → Work → DoorState → Turn
-finished_closing (Stop next) i c k door =
+abbrev pub finished_closing : Option ℕ → ℕ → Car → Work → DoorState → Turn
+finished_closing (Some next) i c k door =
     turned
-    (with_door c (MovingToStop next) door (Stop next) unlit true k.queue k.count)
+    (with_door c (MovingToStop next) door (Some next) unlit true k.queue k.count)
     (word_of (DoorClosed i) ∷ (update_indicators i (lamps_of c) unlit ++ departed_from c.target_stop i))
     not_opened
-finished_closing NoStop i c k door =
+finished_closing None i c k door =
     turned
-    (with_door c Stopped door NoStop both_lit c.going_forward k.queue k.count)
+    (with_door c Stopped door None both_lit c.going_forward k.queue k.count)
     (word_of (DoorClosed i) ∷ update_indicators i (lamps_of c) both_lit)
     not_opened
 
@@ -71,18 +72,18 @@ abbrev pub finished_opening : ℕ → Car → Work → DoorState → Turn
 finished_opening i c k door = turned (rested c k Loading door) (word_of (DoorOpened i) ∷ []) (opened_at c.target_stop c)
 
 -- run, `match transition`
-abbrev pub finish_by : DoorTransition → ElevatorPhase → DoorState → ℕ → Car → Work → StopOption → Turn
+abbrev pub finish_by : DoorTransition → ElevatorPhase → DoorState → ℕ → Car → Work → Option ℕ → Turn
 finish_by FinishedOpening phase door i c k next = finished_opening i c k door
 finish_by FinishedOpen phase door i c k next = rests c k DoorClosing door
 finish_by FinishedClosing phase door i c k next = finished_closing next i c k door
-finish_by None phase door i c k next = rests c k phase door
+finish_by Transition.None phase door i c k next = rests c k phase door
 
 -- run, its two tests that leave the door's tick out
 abbrev pub stays : ElevatorPhase → DoorState → Car → Bool
 stays phase door c = (is_closed door && not (is_door_opening phase)) || (is_inspection c.service_mode && is_open door)
 
 -- run, after the commands: by the phase and door that they left
-abbrev pub door_by : ElevatorPhase → DoorState → ℕ → Car → Work → StopOption → Turn
+abbrev pub door_by : ElevatorPhase → DoorState → ℕ → Car → Work → Option ℕ → Turn
 door_by phase door i c k next =
     cond (stays phase door c) (rests c k phase door) (finish_by (tick door).transition phase (tick door).door i c k next)
 

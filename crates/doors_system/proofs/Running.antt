@@ -15,7 +15,7 @@ use Rattle.world.specs.With.{with_people}
 use Rattle.world.specs.declared.World.{World}
 use Rattle.world.specs.declared.Car.{Car}
 use Rattle.world.specs.declared.Line.{Line}
-use Rattle.world.specs.declared.StopOption.{StopOption}
+use Rattle.std.specs.declared.option.Option.{Option}
 use Rattle.next_stop.specs.NextStop.{loop_next_stop_for_car}
 use Rattle.log_writes.specs.Log.{Wrote}
 use Rattle.log_writes.proofs.Writing.{wrote_none, also}
@@ -33,13 +33,13 @@ use Rattle.hall_calls.specs.declared.Calls.{Calls}
 use Rattle.door_commands.proofs.Working.{no_work, no_words}
 
 -- the first i cars' turns made by code: the world, the doors just opened, and what was written
-pub record Runs (turn : World → ℕ → Step) (world : World) (l : List ℕ) (at i : ℕ) (w : World) (opened : List JustOpened) (l' : List ℕ) (to : ℕ) : Type 0 where
+pub record Runs (turn : World → ℕ → Step) (world : World) (l : List ℕ) (at i : ℕ) (w : World) (opened : List (Option JustOpened)) (l' : List ℕ) (to : ℕ) : Type 0 where
   pub left : w ≡ (run_to turn world i).world
   pub opens : opened ≡ (run_to turn world i).opened
   pub wrote : Wrote l at (run_to turn world i).words l' to
 
 -- the same under other names
-pub same : {turn : World → ℕ → Step} {world w v : World} {l l' m : List ℕ} {at i to b : ℕ} {opened os : List JustOpened} → Runs turn world l at i w opened l' to
+pub same : {turn : World → ℕ → Step} {world w v : World} {l l' m : List ℕ} {at i to b : ℕ} {opened os : List (Option JustOpened)} → Runs turn world l at i w opened l' to
     → m ≡ l'
     → v ≡ w
     → os ≡ opened
@@ -48,7 +48,7 @@ pub same : {turn : World → ℕ → Step} {world w v : World} {l l' m : List �
 same k e f g h = record { left = f ∙ k.left; opens = g ∙ k.opens; wrote = rw (e, h) k.wrote }
 
 -- a turn more
-pub more : {turn : World → ℕ → Step} {world w : World} {l l' l'' : List ℕ} {at i to b : ℕ} {opened : List JustOpened} (s : Step)
+pub more : {turn : World → ℕ → Step} {world w : World} {l l' l'' : List ℕ} {at i to b : ℕ} {opened : List (Option JustOpened)} (s : Step)
     → Runs turn world l at i w opened l' to
     → turn w i ≡ s
     → Wrote l' to s.words l'' b
@@ -67,7 +67,7 @@ unskipped false u e h = absurd (true≢false e)
 
 module _ {l l' : List ℕ} {at : ℕ} {r : Turned} where
   -- who stands on the threshold matters only to a command
-  asked : (i : ℕ) (c : Car) (a traversing u : Bool) (next : StopOption) → (c.command_count ≡ 0) ⊎ (traversing ≡ u) → Turns (door_turn i c a traversing next) l at l' r
+  asked : (i : ℕ) (c : Car) (a traversing u : Bool) (next : Option ℕ) → (c.command_count ≡ 0) ⊎ (traversing ≡ u) → Turns (door_turn i c a traversing next) l at l' r
       → Turns (door_turn i c a u next) l at l' r
   asked i c a traversing u next k h =
       ⊎_elim (λ e. rw (no_work c a u e, no_words c a u i e) (rw (no_work c a traversing e, no_words c a traversing i e) at h)) (λ e. rw (← e) h) k
@@ -101,11 +101,11 @@ quiet true false stays h f = absurd (true≢false h)
 as_it_is : (c : Car) (n : ℕ) → n ≡ c.command_count → with_door c c.phase c.door c.target_stop (lamps_of c) c.going_forward c.door_command_queue n ≡ c
 as_it_is c n e = ap (λ (m : ℕ). with_door c c.phase c.door c.target_stop (lamps_of c) c.going_forward c.door_command_queue m) e
 
-resting : (i : ℕ) (c : Car) (k : Work) (words : List ℕ) (next : StopOption) → k ≡ unworked c → words ≡ [] → stays c.phase c.door c ≡ true
+resting : (i : ℕ) (c : Car) (k : Work) (words : List ℕ) (next : Option ℕ) → k ≡ unworked c → words ≡ [] → stays c.phase c.door c ≡ true
     → turn_by i c k words next ≡ turned (rested c (unworked c) c.phase c.door) [] not_opened
 resting i c k words next e f s = rw (e, f, s)
 
-still : (i : ℕ) (c : Car) (a traversing : Bool) (next : StopOption) → has_turn c ≡ false → door_turn i c a traversing next ≡ turned c [] not_opened
+still : (i : ℕ) (c : Car) (a traversing : Bool) (next : Option ℕ) → has_turn c ≡ false → door_turn i c a traversing next ≡ turned c [] not_opened
 still i c a traversing next h =
     quiet c.enabled (eqb c.command_count 0) (stays c.phase c.door c) h
     (λ n s. let e = eqb-true c.command_count 0 n in
@@ -123,18 +123,18 @@ unopened turn w j b =
     by_turns turn w (λ i r. get_or r.opened j not_opened ≡ not_opened) j (get_or-replicate 16 j not_opened not_opened b)
     (λ i l p. get_or-set_other (run_to turn w i).opened i j (turn (run_to turn w i).world i).opened not_opened (λ (e : j ≡ i). omega (arith, e)) ∙ p)
 
-opened_same : (os : List JustOpened) (i : ℕ) → get_or os i not_opened ≡ not_opened → os ≡ set os i not_opened
+opened_same : (os : List (Option JustOpened)) (i : ℕ) → get_or os i not_opened ≡ not_opened → os ≡ set os i not_opened
 opened_same os i e = sym (set-get_or os i not_opened) ∙ ap (set os i) e
 
-pub passed : {world w : World} {l l' : List ℕ} {at i to : ℕ} {opened : List JustOpened} → Runs door_of world l at i w opened l' to → i < 16
+pub passed : {world w : World} {l l' : List ℕ} {at i to : ℕ} {opened : List (Option JustOpened)} → Runs door_of world l at i w opened l' to → i < 16
     → has_turn (car_at w.cars i) ≡ false
     → Runs door_of world l at (i + 1) w opened l' to
 passed {world = world} {w = w} {i = i} {opened = opened} k b h =
     same (more (step_of w (car_at w.cars i) [] not_opened) k (still_of w i h) wrote_none) refl (stepped_same w i)
-    (opened_same opened i (ap (λ (os : List JustOpened). get_or os i not_opened) k.opens ∙ unopened door_of world i b i (omega arith))) refl
+    (opened_same opened i (ap (λ (os : List (Option JustOpened)). get_or os i not_opened) k.opens ∙ unopened door_of world i b i (omega arith))) refl
 
 -- all cars' turns, then the hall calls
-pub ended : {world w : World} {l l' l'' : List ℕ} {at to : ℕ} {opened : List JustOpened} {r : Calls} → Runs door_of world l at (cars_of world) w opened l' to
+pub ended : {world w : World} {l l' l'' : List ℕ} {at to : ℕ} {opened : List (Option JustOpened)} {r : Calls} → Runs door_of world l at (cars_of world) w opened l' to
     → Clears (clear_to opened (standing world) (cars_of world)) (clear_words_to opened (standing world) (cars_of world)) l' to l'' r
     → (with_people w w.riders w.rider_count r.up r.down ≡ doors_world world) × Wrote l at (doors_words world) l'' r.at
 unfolding doors_world doors_words doored run_cars

@@ -5,7 +5,7 @@ use Rattle.world.specs.With.{with_people}
 use Rattle.world.specs.declared.World.{World}
 use Rattle.world.specs.declared.Car.{Car}
 use Rattle.world.specs.declared.Line.{Line}
-use Rattle.world.specs.declared.StopOption.{StopOption}
+use Rattle.std.specs.declared.option.Option.{Option}
 use Rattle.next_stop.specs.NextStop.{loop_next_stop_for_car}
 use Rattle.steps.specs.Steps.{line_of, Step, Run, step_of, not_opened, run_cars}
 use Rattle.door_commands.specs.Commands.{at_stop, has_rider_traversing, process_door_commands, command_words}
@@ -14,11 +14,11 @@ use Rattle.door_ticks.specs.Ticks.{Turn, turned, stays, door_by, after}
 use Rattle.hall_calls.specs.Clearing.{Standing, standing_in, clear_to, clear_words_to}
 
 -- run, for one car: "queued commands, loop's next stop, then the door's tick"
-abbrev pub turn_by : ℕ → Car → Work → List ℕ → StopOption → Turn
+abbrev pub turn_by : ℕ → Car → Work → List ℕ → Option ℕ → Turn
 turn_by i c k words next = after words (door_by k.phase k.door i c k next)
 
 -- "disabled skipped"
-abbrev pub door_turn : ℕ → Car → Bool → Bool → StopOption → Turn
+abbrev pub door_turn : ℕ → Car → Bool → Bool → Option ℕ → Turn
 door_turn i c at_stop traversing next =
     cond c.enabled (turn_by i c (process_door_commands c at_stop traversing) (command_words c at_stop traversing i) next) (turned c [] not_opened)
 

@@ -4,7 +4,7 @@
 
 ghost use Rattle.std.specs.Prelude.{◌≤◌};
 
-use record::{Answer, record};
+use record::{Accepted, record};
 use world::World;
 use world::empty::empty;
 use world::refusal::{Refusal, number};
@@ -122,12 +122,12 @@ fn take(world: World, words: &[u32]) -> Step {
     let next = recorded.world;
     let answer = recorded.answer;
     match answer {
-        Answer::Refused(refusal) => Step {
+        Err(refusal) => Step {
             end: End::Refused(refusal),
             used: 0,
             world: next,
         },
-        Answer::Accepted { used, .. } => Step {
+        Ok(Accepted { used, .. }) => Step {
             end: End::Accepted,
             used,
             world: next,

@@ -3,8 +3,7 @@ ghost use Rattle.std.specs.Prelude.{◌≤◌};
 
 use crate::show::put_tick;
 use crate::text::flush_half;
-use laws::at_most;
-use record::{Answer, record};
+use record::{Accepted, Answer, record};
 use study_text::put_refused;
 use world::World;
 use world::empty::empty;
@@ -12,13 +11,13 @@ use world::empty::empty;
 // What is printed of an answer. A tick writes its own word at least, and no other record writes one.
 fn put_answer(out: &mut [u8], at: usize, log: &[u32], answer: Answer, world: World) -> usize {
     match answer {
-        Answer::Accepted { used: _, written } => {
+        Ok(Accepted { used: _, written }) => {
             if written == 0 {
                 return at;
             }
             put_tick(out, at, log, written, world)
         }
-        Answer::Refused(refusal) => {
+        Err(refusal) => {
             let to = flush_half(out, at);
             put_refused(out, to, refusal)
         }
@@ -28,15 +27,15 @@ fn put_answer(out: &mut [u8], at: usize, log: &[u32], answer: Answer, world: Wor
 // The words that a record used; a refused one none.
 fn used_of(answer: Answer) -> usize {
     match answer {
-        Answer::Accepted { used, written: _ } => used,
-        Answer::Refused(_) => 0,
+        Ok(accepted) => accepted.used,
+        Err(_) => 0,
     }
 }
 
 fn goes_on(answer: Answer) -> bool {
     match answer {
-        Answer::Accepted { .. } => true,
-        Answer::Refused(_) => false,
+        Ok(_) => true,
+        Err(_) => false,
     }
 }
 
@@ -53,7 +52,7 @@ fn after(at: usize, used: usize, end: usize) -> usize
 
 // The first `count` words, record after record from an empty world, at most 8,192.
 pub fn play(words: &[u32], count: usize, log: &mut [u32], out: &mut [u8], at: usize) -> usize {
-    let end = at_most(count, words.len());
+    let end = count.min(words.len());
     let mut world = empty();
     let mut to = at;
     let mut from: usize = 0;

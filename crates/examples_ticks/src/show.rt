@@ -3,9 +3,8 @@ ghost use Rattle.std.specs.Prelude.{◌≤◌};
 
 use crate::text::{flush_half, put_digits, put_float, put_number};
 use door::{DoorCommand, DoorState};
-use laws::at_most;
 use study_numbers::put;
-use world::{Car, ElevatorPhase, QueuedCommand, StopOption, TickOption, World};
+use world::{Car, ElevatorPhase, QueuedCommand, World};
 
 // A word and a space.
 fn put_word(out: &mut [u8], at: usize, word: u32) -> usize {
@@ -15,7 +14,7 @@ fn put_word(out: &mut [u8], at: usize, word: u32) -> usize {
 
 // The log's first words.
 fn put_words(out: &mut [u8], at: usize, log: &[u32], count: usize) -> usize {
-    let end = at_most(count, log.len());
+    let end = count.min(log.len());
     let mut to = at;
     let mut i: usize = 0;
     while i < end {
@@ -99,16 +98,16 @@ fn put_stop(out: &mut [u8], at: usize, stop: u8) -> usize {
     put_digits(out, at, stop as u64, 2)
 }
 
-fn put_target(out: &mut [u8], at: usize, target: StopOption) -> usize {
+fn put_target(out: &mut [u8], at: usize, target: Option<u8>) -> usize {
     match target {
-        StopOption::NoStop => put(out, at, b'-'),
-        StopOption::Stop(stop) => put_stop(out, at, stop),
+        None => put(out, at, b'-'),
+        Some(stop) => put_stop(out, at, stop),
     }
 }
 
 // 'd' and the destinations.
 fn put_destinations(out: &mut [u8], at: usize, queue: &[u8; 8], count: usize) -> usize {
-    let end = at_most(count, 8);
+    let end = count.min(8);
     let mut to = put(out, at, b'd');
     let mut i: usize = 0;
     while i < end {
@@ -131,7 +130,7 @@ fn put_command(out: &mut [u8], at: usize, queued: QueuedCommand) -> usize {
 
 // 'q' and the door commands.
 fn put_commands(out: &mut [u8], at: usize, queue: [QueuedCommand; 8], count: usize) -> usize {
-    let end = at_most(count, 8);
+    let end = count.min(8);
     let mut to = put(out, at, b'q');
     let mut i: usize = 0;
     while i < end {
@@ -141,10 +140,10 @@ fn put_commands(out: &mut [u8], at: usize, queue: [QueuedCommand; 8], count: usi
     to
 }
 
-fn put_cooldown(out: &mut [u8], at: usize, cooldown: TickOption) -> usize {
+fn put_cooldown(out: &mut [u8], at: usize, cooldown: Option<u64>) -> usize {
     match cooldown {
-        TickOption::NoTick => put(out, at, b'-'),
-        TickOption::AtTick(tick) => put_number(out, at, tick),
+        None => put(out, at, b'-'),
+        Some(tick) => put_number(out, at, tick),
     }
 }
 
@@ -196,7 +195,7 @@ fn put_car(out: &mut [u8], at: usize, car: Car) -> usize {
 }
 
 fn put_cars(out: &mut [u8], at: usize, cars: [Car; 16], count: usize) -> usize {
-    let end = at_most(count, 16);
+    let end = count.min(16);
     let mut to = at;
     let mut i: usize = 0;
     while i < end {

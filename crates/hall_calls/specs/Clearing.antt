@@ -1,8 +1,8 @@
 -- The hall calls that clear: systems/doors.rs, clear_matching_hall_calls. "Hall calls clear after all cars"
 use Rattle.std.specs.Prelude.{◌≡◌, Bool, true, false, ◌&&◌, cond, List, [], ◌∷◌, ◌++◌, ℕ, zero, suc, get_or}
 use Rattle.call_sets.specs.Calls.{called, cleared}
-use Rattle.world.specs.declared.StopOption.{StopOption}
-use Rattle.world.specs.declared.StopOption.TheVariants.{NoStop, Stop}
+use Rattle.std.specs.declared.option.Option.{Option}
+use Rattle.std.specs.declared.option.Option.TheVariants.{None, Some}
 use Rattle.log_words.specs.Words.{word_of}
 use Rattle.log_writes.specs.Log.{Wrote}
 use Rattle.log_words.specs.declared.Event.TheVariants.{HallCallCleared}
@@ -32,26 +32,26 @@ abbrev pub both_ways : Calls → Standing
 both_ways calls = standing_in calls.up calls.down
 
 -- clear_matching_hall_calls, for what car i opened: up before down
-abbrev pub clear_matching : StopOption → JustOpened → Standing → Standing
-clear_matching NoStop o h = h
-clear_matching (Stop s) o h = record { up = clear_one h.up s o.going_up; down = clear_one h.down s o.going_down }
+abbrev pub clear_matching : Option JustOpened → Standing → Standing
+clear_matching None h = h
+clear_matching (Some o) h = record { up = clear_one h.up o.stop o.going_up; down = clear_one h.down o.stop o.going_down }
 
-abbrev pub clear_matching_words : StopOption → ℕ → JustOpened → Standing → List ℕ
-clear_matching_words NoStop i o h = []
-clear_matching_words (Stop s) i o h = clear_word h.up i s o.going_up false ++ clear_word h.down i s o.going_down true
+abbrev pub clear_matching_words : Option JustOpened → ℕ → Standing → List ℕ
+clear_matching_words None i h = []
+clear_matching_words (Some o) i h = clear_word h.up i o.stop o.going_up false ++ clear_word h.down i o.stop o.going_down true
 
-module _ (opened : List JustOpened) (h : Standing) where
-  abbrev pub opened_of : ℕ → JustOpened
+module _ (opened : List (Option JustOpened)) (h : Standing) where
+  abbrev pub opened_of : ℕ → Option JustOpened
   opened_of n = get_or opened n not_opened
 
   -- after the first n cars of just_opened
   unfoldable pub clear_to : ℕ → Standing
   clear_to zero = h
-  clear_to (suc n) = clear_matching (opened_of n).stop (opened_of n) (clear_to n)
+  clear_to (suc n) = clear_matching (opened_of n) (clear_to n)
 
   unfoldable pub clear_words_to : ℕ → List ℕ
   clear_words_to zero = []
-  clear_words_to (suc n) = clear_words_to n ++ clear_matching_words (opened_of n).stop n (opened_of n) (clear_to n)
+  clear_words_to (suc n) = clear_words_to n ++ clear_matching_words (opened_of n) n (clear_to n)
 
 -- calls cleared by code: those that stand, and what it wrote
 pub record Clears (h : Standing) (words : List ℕ) (l : List ℕ) (at : ℕ) (l' : List ℕ) (r : Calls) : Type 0 where

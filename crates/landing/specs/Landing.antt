@@ -13,18 +13,16 @@ use Rattle.world.specs.declared.Car.{Car}
 use Rattle.world.specs.declared.Motion.{Motion}
 use Rattle.world.specs.declared.LineKind.{LineKind}
 use Rattle.world.specs.declared.LineKind.TheVariants.{Linear, Loop}
-use Rattle.world.specs.declared.SpeedOption.{SpeedOption}
-use Rattle.world.specs.declared.SpeedOption.TheVariants.{NoSpeed, Speed}
+use Rattle.std.specs.declared.option.Option.{Option}
+use Rattle.std.specs.declared.option.Option.TheVariants.{None, Some}
 use Rattle.leader.specs.Leader.{loop_leader_pos}
-use Rattle.leader.specs.declared.LeaderOption.{LeaderOption}
-use Rattle.leader.specs.declared.LeaderOption.TheVariants.{NoLeader, At}
 use Rattle.steps.specs.Steps.{is_inspection}
 use Rattle.trips.specs.declared.Trip.{Trip}
 use Rattle.trips.specs.declared.Trip.TheVariants.{Rests, Drives, GoesTo, Repositions}
 
 -- "On a loop the leader is the other car of the line": loop_leader_pos, on positions already updated
-abbrev pub leader_of : LineKind → List Car → ℕ → ℕ → Car → LeaderOption
-leader_of Linear cars count i c = NoLeader
+abbrev pub leader_of : LineKind → List Car → ℕ → ℕ → Car → Option Float
+leader_of Linear cars count i c = None
 leader_of (Loop circumference headway) cars count i c = loop_leader_pos cars count i c.line c.motion.position circumference
 
 -- "Inspection multiplies max speed by the factor"
@@ -32,21 +30,21 @@ abbrev pub max_speed_of : Car → Float
 max_speed_of c = cond (is_inspection c.service_mode) (mul binary64 c.motion.max_speed c.motion.inspection_speed_factor) c.motion.max_speed
 
 -- "its clamp sets the target": run, `effective_target`
-abbrev pub effective_target : LeaderOption → Float → Float → Float → Float → Float
-effective_target NoLeader pos target headway circumference = target
-effective_target (At leader) pos target headway circumference = headway_clamp_target pos leader target headway circumference
+abbrev pub effective_target : Option Float → Float → Float → Float → Float → Float
+effective_target None pos target headway circumference = target
+effective_target (Some leader) pos target headway circumference = headway_clamp_target pos leader target headway circumference
 
 -- run, `result`
-abbrev pub result_by : LineKind → LeaderOption → Motion → Float → Float → Float → MovementResult
+abbrev pub result_by : LineKind → Option Float → Motion → Float → Float → Float → MovementResult
 result_by Linear ahead m speed target dt = tick_movement m.position m.velocity target speed m.acceleration m.deceleration dt
 result_by (Loop circumference headway) ahead m speed target dt =
     tick_movement_cyclic m.position m.velocity (effective_target ahead m.position target headway circumference) speed m.acceleration
     m.deceleration dt circumference
 
 -- manual_target_velocity.unwrap_or(0.0)
-abbrev pub wanted_speed : SpeedOption → Float
-wanted_speed NoSpeed = Float.zero
-wanted_speed (Speed v) = v
+abbrev pub wanted_speed : Option Float → Float
+wanted_speed None = Float.zero
+wanted_speed (Some v) = v
 
 abbrev pub driven_to : Float → Float → MovementResult
 driven_to position velocity = record { position = position; velocity = velocity; arrived = false }
@@ -56,14 +54,14 @@ abbrev pub held_velocity : Float → Float → Float → Float
 held_velocity clamped wrapped velocity = cond (lt epsilon (abs (sub binary64 clamped wrapped))) Float.zero velocity
 
 -- tick_manual, on a loop: the landing behind the leader
-abbrev pub behind : LeaderOption → Float → Float → Float → Float → Float → MovementResult
-behind NoLeader old wrapped velocity headway circumference = driven_to wrapped velocity
-behind (At leader) old wrapped velocity headway circumference =
+abbrev pub behind : Option Float → Float → Float → Float → Float → Float → MovementResult
+behind None old wrapped velocity headway circumference = driven_to wrapped velocity
+behind (Some leader) old wrapped velocity headway circumference =
     let clamped = headway_clamp_target old leader wrapped headway circumference in
     driven_to clamped (held_velocity clamped wrapped velocity)
 
 -- tick_manual, from `raw_new_pos` on
-abbrev pub driven_by : LineKind → LeaderOption → Float → Float → Float → MovementResult
+abbrev pub driven_by : LineKind → Option Float → Float → Float → Float → MovementResult
 driven_by Linear ahead old raw velocity = driven_to raw velocity
 driven_by (Loop circumference headway) ahead old raw velocity = behind ahead old (wrap_position raw circumference) velocity headway circumference
 
@@ -74,11 +72,11 @@ manual_speed c dt =
     c.motion.deceleration dt
 
 -- tick_manual: position and velocity; no Manual car arrives
-abbrev pub driven : LineKind → LeaderOption → Car → Float → MovementResult
+abbrev pub driven : LineKind → Option Float → Car → Float → MovementResult
 driven kind leader c dt = driven_by kind leader c.motion.position (fma (manual_speed c dt) dt c.motion.position) (manual_speed c dt)
 
 -- a car's landing
-abbrev pub landing : Trip → LineKind → LeaderOption → Car → List Float → Float → MovementResult
+abbrev pub landing : Trip → LineKind → Option Float → Car → List Float → Float → MovementResult
 landing Rests kind ahead c stops dt = driven_to c.motion.position c.motion.velocity
 landing Drives kind ahead c stops dt = driven kind ahead c dt
 landing (GoesTo s) kind ahead c stops dt = result_by kind ahead c.motion (max_speed_of c) (stop_at stops s) dt

@@ -5,7 +5,7 @@ ghost use Rattle.std.specs.Prelude.{◌≡◌};
 ghost use Rattle.landing.specs.Landing as Landing;
 
 use float::{EPSILON, abs};
-use leader::{LeaderOption, loop_leader_pos};
+use leader::loop_leader_pos;
 use lookup::stops::stop_position;
 use motion::cyclic::wrap_position;
 use motion::movement::{MovementResult, headway_clamp_target, tick_movement, tick_movement_cyclic};
@@ -13,7 +13,7 @@ use steps::is_inspection;
 use trips::Trip;
 use velocity::fp::fma;
 use velocity::manual_velocity;
-use world::{Car, LineKind, Motion, SpeedOption};
+use world::{Car, LineKind, Motion};
 
 // Inspection multiplies max speed by the factor.
 fn max_speed(car: Car) -> f64
@@ -28,7 +28,7 @@ fn max_speed(car: Car) -> f64
 
 // run, `effective_target`.
 fn effective_target(
-    leader: LeaderOption,
+    leader: Option<f64>,
     pos: f64,
     target: f64,
     headway: f64,
@@ -37,15 +37,15 @@ fn effective_target(
     ensures { result ≡ Landing.effective_target leader pos target headway circumference }
 {
     match leader {
-        LeaderOption::NoLeader => target,
-        LeaderOption::At(lp) => headway_clamp_target(pos, lp, target, headway, circumference),
+        None => target,
+        Some(lp) => headway_clamp_target(pos, lp, target, headway, circumference),
     }
 }
 
 // run, `result`.
 fn result_by(
     kind: LineKind,
-    leader: LeaderOption,
+    leader: Option<f64>,
     m: Motion,
     max_speed: f64,
     target: f64,
@@ -80,12 +80,12 @@ fn result_by(
 }
 
 // manual_target_velocity.unwrap_or(0.0)
-fn wanted_speed(speed: SpeedOption) -> f64
+fn wanted_speed(speed: Option<f64>) -> f64
     ensures { result ≡ Landing.wanted_speed speed }
 {
     match speed {
-        SpeedOption::NoSpeed => 0.0,
-        SpeedOption::Speed(v) => v,
+        None => 0.0,
+        Some(v) => v,
     }
 }
 
@@ -112,7 +112,7 @@ fn held_velocity(clamped: f64, wrapped: f64, velocity: f64) -> f64
 
 // tick_manual on a loop: the landing behind the leader.
 fn behind(
-    leader: LeaderOption,
+    leader: Option<f64>,
     old: f64,
     wrapped: f64,
     velocity: f64,
@@ -122,8 +122,8 @@ fn behind(
     ensures { result ≡ Landing.behind leader old wrapped velocity headway circumference }
 {
     match leader {
-        LeaderOption::NoLeader => driven_to(wrapped, velocity),
-        LeaderOption::At(lp) => {
+        None => driven_to(wrapped, velocity),
+        Some(lp) => {
             let clamped = headway_clamp_target(old, lp, wrapped, headway, circumference);
             driven_to(clamped, held_velocity(clamped, wrapped, velocity))
         }
@@ -133,7 +133,7 @@ fn behind(
 // tick_manual, from `raw_new_pos` on.
 fn driven_by(
     kind: LineKind,
-    leader: LeaderOption,
+    leader: Option<f64>,
     old: f64,
     raw: f64,
     velocity: f64,
@@ -157,7 +157,7 @@ fn driven_by(
 }
 
 // tick_manual: position and velocity.
-fn driven(kind: LineKind, leader: LeaderOption, car: Car, dt: f64) -> MovementResult
+fn driven(kind: LineKind, leader: Option<f64>, car: Car, dt: f64) -> MovementResult
     ensures { result ≡ Landing.driven kind leader car dt }
 {
     let m = car.motion;
@@ -183,7 +183,7 @@ fn driven(kind: LineKind, leader: LeaderOption, car: Car, dt: f64) -> MovementRe
 pub fn landing(
     trip: Trip,
     kind: LineKind,
-    leader: LeaderOption,
+    leader: Option<f64>,
     car: Car,
     stops: &[f64; 64],
     dt: f64,
@@ -207,11 +207,11 @@ pub fn leader_of(
     car_count: usize,
     i: usize,
     car: Car,
-) -> LeaderOption
+) -> Option<f64>
     ensures { result ≡ Landing.leader_of kind cars car_count i car }
 {
     match kind {
-        LineKind::Linear => LeaderOption::NoLeader,
+        LineKind::Linear => None,
         LineKind::Loop {
             circumference,
             min_headway: _,

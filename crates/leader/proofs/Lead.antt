@@ -18,31 +18,30 @@ use Rattle.world.specs.World.{car_at}
 use Rattle.leader.specs.Leader.{position_of, is_other, car_ahead, leader_or, leader_to, leader_pos, loop_leader_pos, IsOther, Led, LeaderIsNearest}
 use Rattle.leader.specs.Ahead.{is_nearer}
 use Rattle.world.specs.declared.Car.{Car}
-use Rattle.world.specs.declared.CarOption.{CarOption}
-use Rattle.world.specs.declared.CarOption.TheVariants.{NoCar, OfCar}
-use Rattle.leader.specs.declared.LeaderOption.TheVariants.{NoLeader, At}
+use Rattle.std.specs.declared.option.Option.{Option}
+use Rattle.std.specs.declared.option.Option.TheVariants.{None, Some}
 
 -- ---- the code's turn
 
 -- what the search holds: whether there is a leader, its distance and its position
-pub data Held (cars : List Car) (pos circumference : Float) : CarOption → Bool → Float → Float → Type 0 where
-  nobody : {nearest position : Float} → Held cars pos circumference NoCar false nearest position
-  somebody : (j : ℕ) → Held cars pos circumference (OfCar j) true (car_ahead cars pos circumference j) (position_of cars j)
+pub data Held (cars : List Car) (pos circumference : Float) : Option ℕ → Bool → Float → Float → Type 0 where
+  nobody : {nearest position : Float} → Held cars pos circumference None false nearest position
+  somebody : (j : ℕ) → Held cars pos circumference (Some j) true (car_ahead cars pos circumference j) (position_of cars j)
 
 module _ {cars : List Car} {pos circumference : Float} where
-  or_taken : {x : CarOption} {found : Bool} {nearest position : Float} (i : ℕ) → Held cars pos circumference x found nearest position
+  or_taken : {x : Option ℕ} {found : Bool} {nearest position : Float} (i : ℕ) → Held cars pos circumference x found nearest position
       → is_nearer found nearest (car_ahead cars pos circumference i) ≡ true
       → Held cars pos circumference (leader_or cars pos circumference x i) true (car_ahead cars pos circumference i) (position_of cars i)
   or_taken i nobody u = somebody i
   or_taken i (somebody j) u = rw u (somebody i)
 
-  or_kept : {x : CarOption} {found : Bool} {nearest position : Float} (i : ℕ) → Held cars pos circumference x found nearest position
+  or_kept : {x : Option ℕ} {found : Bool} {nearest position : Float} (i : ℕ) → Held cars pos circumference x found nearest position
       → is_nearer found nearest (car_ahead cars pos circumference i) ≡ false
       → Held cars pos circumference (leader_or cars pos circumference x i) found nearest position
   or_kept i nobody u = yes u
   or_kept i (somebody j) u = rw u (somebody j)
 
-  pub pos_held : {x : CarOption} {found : Bool} {nearest position : Float} → Held cars pos circumference x found nearest position → cond found (At position) NoLeader ≡ leader_pos cars x
+  pub pos_held : {x : Option ℕ} {found : Bool} {nearest position : Float} → Held cars pos circumference x found nearest position → cond found (Some position) None ≡ leader_pos cars x
   pos_held nobody = refl
   pos_held (somebody j) = refl
 
@@ -83,14 +82,14 @@ module _ (cars : List Car) (me line : ℕ) (pos circumference : Float) where
   other k = is_other cars me line k ≡ true
 
   -- x is the leader among the first n cars
-  abbrev Best : ℕ → CarOption → Type 0
-  Best n NoCar = (k : ℕ) → k < n → other k → ⊥
-  Best n (OfCar j) = (j < n) × other j × ((k : ℕ) → k < n → other k → total_before (d k) (d j) ≡ false) × ((k : ℕ) → k < n → other k → d k ≡ d j → j ≤ k)
+  abbrev Best : ℕ → Option ℕ → Type 0
+  Best n None = (k : ℕ) → k < n → other k → ⊥
+  Best n (Some j) = (j < n) × other j × ((k : ℕ) → k < n → other k → total_before (d k) (d j) ≡ false) × ((k : ℕ) → k < n → other k → d k ≡ d j → j ≤ k)
 
   -- car n is no other car of the line
-  skip : (n : ℕ) (x : CarOption) → is_other cars me line n ≡ false → Best n x → Best (suc n) x
-  skip n NoCar t h = extend (λ (k : ℕ). other k → ⊥) n h (λ o. no (sym t ∙ o))
-  skip n (OfCar j) t h = (
+  skip : (n : ℕ) (x : Option ℕ) → is_other cars me line n ≡ false → Best n x → Best (suc n) x
+  skip n None t h = extend (λ (k : ℕ). other k → ⊥) n h (λ o. no (sym t ∙ o))
+  skip n (Some j) t h = (
     omega arith,
     h.1,
     extend (λ (k : ℕ). other k → total_before (d k) (d j) ≡ false) n h.2 (λ o. no (sym t ∙ o)),
@@ -98,7 +97,7 @@ module _ (cars : List Car) (me line : ℕ) (pos circumference : Float) where
   )
 
   -- car n is the first, or nearer
-  first : (n : ℕ) → other n → Best n NoCar → Best (suc n) (OfCar n)
+  first : (n : ℕ) → other n → Best n None → Best (suc n) (Some n)
   first n o h = (
     omega arith,
     o,
@@ -110,7 +109,7 @@ module _ (cars : List Car) (me line : ℕ) (pos circumference : Float) where
   not_before true h = absurd (h refl)
   not_before false h = refl
 
-  nearer : (n j : ℕ) → other n → total_before (d n) (d j) ≡ true → Best n (OfCar j) → Best (suc n) (OfCar n)
+  nearer : (n j : ℕ) → other n → total_before (d n) (d j) ≡ true → Best n (Some j) → Best (suc n) (Some n)
   nearer n j o t h = (
     omega arith,
     o,
@@ -122,7 +121,7 @@ module _ (cars : List Car) (me line : ℕ) (pos circumference : Float) where
         (λ _ _. omega arith),
   )
 
-  farther : (n j : ℕ) → total_before (d n) (d j) ≡ false → Best n (OfCar j) → Best (suc n) (OfCar j)
+  farther : (n j : ℕ) → total_before (d n) (d j) ≡ false → Best n (Some j) → Best (suc n) (Some j)
   farther n j t h = (
     omega arith,
     h.1,
@@ -130,11 +129,11 @@ module _ (cars : List Car) (me line : ℕ) (pos circumference : Float) where
     extend (λ (k : ℕ). other k → d k ≡ d j → j ≤ k) n h.3 (λ _ _. let l : j < n = h.0 in omega arith),
   )
 
-  turn : (n : ℕ) (x : CarOption) → other n → Best n x → Best (suc n) (leader_or cars pos circumference x n)
-  turn n NoCar o h = first n o h
-  turn n (OfCar j) o h = by (total_before (d n) (d j)) refl
+  turn : (n : ℕ) (x : Option ℕ) → other n → Best n x → Best (suc n) (leader_or cars pos circumference x n)
+  turn n None o h = first n o h
+  turn n (Some j) o h = by (total_before (d n) (d j)) refl
     where
-      by : (b : Bool) → total_before (d n) (d j) ≡ b → Best (suc n) (cond b (OfCar n) (OfCar j))
+      by : (b : Bool) → total_before (d n) (d j) ≡ b → Best (suc n) (cond b (Some n) (Some j))
       by true t = nearer n j o t h
       by false t = farther n j t h
 
@@ -161,9 +160,9 @@ module _ (cars : List Car) (me line : ℕ) (pos circumference : Float) where
     ),
   )
 
-  led : (count : ℕ) (x : CarOption) → Best (min count 16) x → Led cars count me line pos circumference (leader_pos cars x)
-  led count NoCar h = λ k o. h k o.0 (is_other_lem count k o)
-  led count (OfCar j) h = (
+  led : (count : ℕ) (x : Option ℕ) → Best (min count 16) x → Led cars count me line pos circumference (leader_pos cars x)
+  led count None h = λ k o. h k o.0 (is_other_lem count k o)
+  led count (Some j) h = (
     j,
     (
       record {

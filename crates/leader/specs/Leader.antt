@@ -4,10 +4,8 @@ use Rattle.float.specs.Float.{total_before}
 use Rattle.motion.specs.Cyclic.{forward_distance}
 use Rattle.world.specs.World.{car_at}
 use Rattle.world.specs.declared.Car.{Car}
-use Rattle.world.specs.declared.CarOption.{CarOption}
-use Rattle.world.specs.declared.CarOption.TheVariants.{NoCar, OfCar}
-use Rattle.leader.specs.declared.LeaderOption.{LeaderOption}
-use Rattle.leader.specs.declared.LeaderOption.TheVariants.{NoLeader, At}
+use Rattle.std.specs.declared.option.Option.{Option}
+use Rattle.std.specs.declared.option.Option.TheVariants.{None, Some}
 
 -- the position of car i
 abbrev pub position_of : List Car → ℕ → Float
@@ -25,24 +23,24 @@ abbrev pub car_ahead : List Car → Float → Float → ℕ → Float
 car_ahead cars pos circumference i = forward_distance pos (position_of cars i) circumference
 
 -- car i in place of the leader so far where it is nearer: "with least `forward_distance` by total_cmp (-0 before +0), lower number on a tie"
-abbrev pub leader_or : List Car → Float → Float → CarOption → ℕ → CarOption
-leader_or cars pos circumference NoCar i = OfCar i
-leader_or cars pos circumference (OfCar j) i = cond (total_before (car_ahead cars pos circumference i) (car_ahead cars pos circumference j)) (OfCar i) (OfCar j)
+abbrev pub leader_or : List Car → Float → Float → Option ℕ → ℕ → Option ℕ
+leader_or cars pos circumference None i = Some i
+leader_or cars pos circumference (Some j) i = cond (total_before (car_ahead cars pos circumference i) (car_ahead cars pos circumference j)) (Some i) (Some j)
 
 -- the leader among the first i cars
-unfoldable pub leader_to : List Car → ℕ → ℕ → Float → Float → ℕ → CarOption
-leader_to cars me line pos circumference zero = NoCar
+unfoldable pub leader_to : List Car → ℕ → ℕ → Float → Float → ℕ → Option ℕ
+leader_to cars me line pos circumference zero = None
 leader_to cars me line pos circumference (suc i) =
     let leader = leader_to cars me line pos circumference i in
     cond (is_other cars me line i) (leader_or cars pos circumference leader i) leader
 
 -- its position
-abbrev pub leader_pos : List Car → CarOption → LeaderOption
-leader_pos cars NoCar = NoLeader
-leader_pos cars (OfCar j) = At (position_of cars j)
+abbrev pub leader_pos : List Car → Option ℕ → Option Float
+leader_pos cars None = None
+leader_pos cars (Some j) = Some (position_of cars j)
 
 -- movement.rs, loop_leader_pos
-unfoldable pub loop_leader_pos : List Car → ℕ → ℕ → ℕ → Float → Float → LeaderOption
+unfoldable pub loop_leader_pos : List Car → ℕ → ℕ → ℕ → Float → Float → Option Float
 loop_leader_pos cars count me line pos circumference = leader_pos cars (leader_to cars me line pos circumference (min count 16))
 
 -- ---- a claim about the definition: it gives the position of the leader as the paper has it, and no leader only where there is none
@@ -58,9 +56,9 @@ pub record IsLeader (cars : List Car) (count me line : ℕ) (pos circumference :
   pub lower : (k : ℕ) → IsOther cars count me line k → car_ahead cars pos circumference k ≡ car_ahead cars pos circumference j → j ≤ k
 
 -- what an answer says of the cars
-abbrev pub Led : List Car → ℕ → ℕ → ℕ → Float → Float → LeaderOption → Type 0
-Led cars count me line pos circumference NoLeader = (k : ℕ) → IsOther cars count me line k → ⊥
-Led cars count me line pos circumference (At position) = (j : ℕ) × (IsLeader cars count me line pos circumference j × (position ≡ position_of cars j))
+abbrev pub Led : List Car → ℕ → ℕ → ℕ → Float → Float → Option Float → Type 0
+Led cars count me line pos circumference None = (k : ℕ) → IsOther cars count me line k → ⊥
+Led cars count me line pos circumference (Some position) = (j : ℕ) × (IsLeader cars count me line pos circumference j × (position ≡ position_of cars j))
 
 -- whatever the cars, the circle and the position
 unfoldable pub LeaderIsNearest : Type 0

@@ -6,16 +6,8 @@ ghost use Rattle.leader.specs.Leader.{is_other_car, loop_leader_pos, LeaderIsNea
 ghost use Rattle.leader.specs.Ahead.{is_nearer};
 
 use float::total_before;
-use laws::at_most;
 use motion::cyclic::forward_distance;
 use world::Car;
-
-// The Rust's Option of a leader's position.
-#[derive(Clone, Copy)]
-pub enum LeaderOption {
-    NoLeader,
-    At(f64),
-}
 
 // Whether car i is another car of the line, disabled or not.
 fn is_other(car: Car, me: usize, line: u8, i: usize) -> bool
@@ -39,10 +31,10 @@ pub fn loop_leader_pos(
     line: u8,
     pos: f64,
     circumference: f64,
-) -> LeaderOption
+) -> Option<f64>
     ensures { result ≡ loop_leader_pos cars car_count me line pos circumference }
 {
-    let n = at_most(car_count, 16);
+    let n = car_count.min(16);
     // Plain variables: a copy of an enum waits for its padding.
     let mut found = false;
     let mut nearest: f64 = 0.0;
@@ -60,11 +52,7 @@ pub fn loop_leader_pos(
         }
         i += 1;
     }
-    if found {
-        LeaderOption::At(position)
-    } else {
-        LeaderOption::NoLeader
-    }
+    if found { Some(position) } else { None }
 }
 
 // Carries the claim that the definition gives the leader.

@@ -3,8 +3,8 @@ use Rattle.std.specs.Prelude.{◌≡◌, true, List, [], ◌∷◌, ℕ}
 use Rattle.world.specs.World.{empty_world}
 use Rattle.world.specs.declared.World.{World}
 use Rattle.world.specs.declared.refusal.Refusal.TheVariants.{LogShort}
-use Rattle.record.specs.declared.Answer.{Answer}
-use Rattle.record.specs.declared.Answer.TheVariants.{Accepted, Refused}
+use Rattle.record.specs.Record.{Answer}
+use Rattle.std.specs.Prelude.{Ok, Err}
 use Rattle.record.specs.Record.{Outcome, record_of}
 use Rattle.record.specs.Calls.{Call, outcome, next, world_after}
 use Rattle.conditions.specs.Conditions.{Kept}
@@ -70,13 +70,13 @@ three a b c =
 
 pub record Three (a b c : Outcome) : Type 0 where
   -- an accepted record leaves the next world
-  pub accepted : a.answer ≡ Accepted 1 0
+  pub accepted : a.answer ≡ Ok (record { used = 1; written = 0 })
   pub started : a.world.started ≡ true
   -- a refused one the old
-  pub refused : b.answer ≡ Refused LogShort
+  pub refused : b.answer ≡ Err LogShort
   pub waits : b.world.ticks ≡ 0
   -- a tick's word is in the log
-  pub ticked : c.answer ≡ Accepted 3 1
+  pub ticked : c.answer ≡ Ok (record { used = 3; written = 1 })
   pub ticks : c.world.ticks ≡ 1
   pub word : c.log ≡ 0 ∷ []
 

@@ -7,16 +7,16 @@ use native.Mathlib.Omega.{arith}
 use lib.Ieee.{Float}
 use Rattle.world.specs.World.{stop_at}
 use Rattle.lookup.specs.Stops.{stands_at, first_standing}
-use Rattle.world.specs.declared.StopOption.TheVariants.{NoStop, Stop}
+use Rattle.std.specs.declared.option.Option.TheVariants.{None, Some}
 
 module _ (stops : List Float) (position : Float) (candidate : ℕ → ℕ) (n i : ℕ) where
   turn : i < n → first_standing stops position candidate (n - i) i
-      ≡ cond (stands_at (stop_at stops (candidate i)) position) (Stop (candidate i)) (first_standing stops position candidate (n - (i + 1)) (i + 1))
+      ≡ cond (stands_at (stop_at stops (candidate i)) position) (Some (candidate i)) (first_standing stops position candidate (n - (i + 1)) (i + 1))
   unfolding first_standing
   turn h = let e : n - i ≡ suc (n - (i + 1)) = omega arith in rw e
 
   -- candidate i stands there
-  pub found : i < n → stands_at (stop_at stops (candidate i)) position ≡ true → first_standing stops position candidate (n - i) i ≡ Stop (candidate i)
+  pub found : i < n → stands_at (stop_at stops (candidate i)) position ≡ true → first_standing stops position candidate (n - i) i ≡ Some (candidate i)
   found h t = turn h ∙ rw t
 
   -- it does not
@@ -25,6 +25,6 @@ module _ (stops : List Float) (position : Float) (candidate : ℕ → ℕ) (n i 
   passed h t = turn h ∙ rw t
 
   -- no candidate is left
-  pub ended : n ≤ i → first_standing stops position candidate (n - i) i ≡ NoStop
+  pub ended : n ≤ i → first_standing stops position candidate (n - i) i ≡ None
   unfolding first_standing
   ended h = let e : n - i ≡ 0 = omega arith in rw e

@@ -5,8 +5,8 @@ use Rattle.std.specs.Float.Ieee.{of_bits, sub, lt}
 use Rattle.float.specs.Float.{abs}
 use Rattle.world.specs.World.{stop_at, line_at}
 use Rattle.world.specs.declared.Line.{Line}
-use Rattle.world.specs.declared.StopOption.{StopOption}
-use Rattle.world.specs.declared.StopOption.TheVariants.{NoStop, Stop}
+use Rattle.std.specs.declared.option.Option.{Option}
+use Rattle.std.specs.declared.option.Option.TheVariants.{None, Some}
 use Rattle.lookup.specs.declared.stops.Serves.{Serves}
 
 -- ---- the stop at a position
@@ -20,17 +20,17 @@ unfoldable pub stands_at : Float → Float → Bool
 stands_at stop position = lt (abs (sub binary64 stop position)) stop_position_epsilon
 
 -- the first of m candidates, of which i is the next, that stands at the position; `candidate i` is a stop's number
-unfoldable pub first_standing : List Float → Float → (ℕ → ℕ) → ℕ → ℕ → StopOption
-first_standing stops position candidate zero i = NoStop
+unfoldable pub first_standing : List Float → Float → (ℕ → ℕ) → ℕ → ℕ → Option ℕ
+first_standing stops position candidate zero i = None
 first_standing stops position candidate (suc m) i =
-    cond (stands_at (stop_at stops (candidate i)) position) (Stop (candidate i)) (first_standing stops position candidate m (i + 1))
+    cond (stands_at (stop_at stops (candidate i)) position) (Some (candidate i)) (first_standing stops position candidate m (i + 1))
 
 -- world.rs, find_stop_at_position: in number order
-unfoldable pub find_stop_at_position : List Float → ℕ → Float → StopOption
+unfoldable pub find_stop_at_position : List Float → ℕ → Float → Option ℕ
 find_stop_at_position stops count position = first_standing stops position (λ s. s) (min count 64) 0
 
 -- world.rs, find_stop_at_position_in: in the list's order
-unfoldable pub find_stop_at_position_in : List Float → Float → List ℕ → ℕ → StopOption
+unfoldable pub find_stop_at_position_in : List Float → Float → List ℕ → ℕ → Option ℕ
 find_stop_at_position_in stops position serves count = first_standing stops position (λ i. get_or serves i 0) (min count 64) 0
 
 -- ---- what a line serves

@@ -4,8 +4,7 @@ ghost use Rattle.world.specs.World.{stop_at};
 ghost use Rattle.lookup.specs.Stops.{stands_at, find_stop_at_position, find_stop_at_position_in, elevator_line_serves};
 
 use float::abs;
-use laws::at_most;
-use world::{Line, StopOption};
+use world::Line;
 
 const STOP_POSITION_EPSILON: f64 = 1e-6;
 
@@ -34,18 +33,18 @@ fn stands_at(stop: f64, position: f64) -> bool
 }
 
 // world.rs, find_stop_at_position
-pub fn find_stop_at_position(stops: &[f64; 64], stop_count: usize, position: f64) -> StopOption
+pub fn find_stop_at_position(stops: &[f64; 64], stop_count: usize, position: f64) -> Option<u8>
     ensures { result ≡ find_stop_at_position stops.now stop_count position }
 {
-    let n = at_most(stop_count, 64);
+    let n = stop_count.min(64);
     let mut s: usize = 0;
     while s < n {
         if stands_at(stops[s], position) {
-            return StopOption::Stop(s as u8);
+            return Some(s as u8);
         }
         s += 1;
     }
-    StopOption::NoStop
+    None
 }
 
 // world.rs, find_stop_at_position_in
@@ -54,19 +53,19 @@ pub fn find_stop_at_position_in(
     position: f64,
     serves: &[u8; 64],
     serves_count: usize,
-) -> StopOption
+) -> Option<u8>
     ensures { result ≡ find_stop_at_position_in stops.now position serves.now serves_count }
 {
-    let n = at_most(serves_count, 64);
+    let n = serves_count.min(64);
     let mut i: usize = 0;
     while i < n {
         let s = serves[i];
         if stands_at(stop_position(stops, s), position) {
-            return StopOption::Stop(s);
+            return Some(s);
         }
         i += 1;
     }
-    StopOption::NoStop
+    None
 }
 
 // dispatch/mod.rs, elevator_line_serves

@@ -11,8 +11,8 @@ use Rattle.door.specs.Phases.{transition_at}
 use Rattle.door.specs.declared.DoorTransition.{DoorTransition}
 use Rattle.door.specs.declared.DoorTransition.TheVariants.{FinishedOpening, FinishedOpen, FinishedClosing}
 use Rattle.next_stop.specs.NextStop.{loop_next_stop_forward}
-use Rattle.world.specs.declared.StopOption.{StopOption}
-use Rattle.world.specs.declared.StopOption.TheVariants.{NoStop, Stop}
+use Rattle.std.specs.declared.option.Option.{Option}
+use Rattle.std.specs.declared.option.Option.TheVariants.{None, Some}
 
 -- ---- the numbers
 
@@ -63,7 +63,7 @@ minus_tiny = of_bits binary64 0xbbc7_9ca1_0c92_4223
 pub data Answer : Type 0 where
   moved : MovementResult → Answer
   place : Float → Answer
-  next : StopOption → Answer
+  next : Option ℕ → Answer
   turn : DoorTransition → Answer
 
 pub record Example : Type 0 where
@@ -108,9 +108,9 @@ examples =
     -- leader 2 gives 0
     ∷ example (place (headway_clamp_target zero two nine three ten)) (place zero)
     -- next from 4 among 0, 4, 7 on 10 is 7
-    ∷ example (next_from_four (0 ∷ 1 ∷ 2 ∷ [])) (next (Stop 2))
+    ∷ example (next_from_four (0 ∷ 1 ∷ 2 ∷ [])) (next (Some 2))
     -- among 4 only, 4
-    ∷ example (next_from_four (1 ∷ [])) (next (Stop 1))
+    ∷ example (next_from_four (1 ∷ [])) (next (Some 1))
     -- request_open(0, 0) ends phases at ticks 1, 2, 3
     ∷ example (turn (transition_at 1 (request_open 0 0))) (turn FinishedOpening)
     ∷ example (turn (transition_at 2 (request_open 0 0))) (turn FinishedOpen)

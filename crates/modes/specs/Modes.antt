@@ -5,7 +5,7 @@ use Rattle.world.specs.With.{with_car, with_orders}
 use Rattle.world.specs.declared.World.{World}
 use Rattle.world.specs.declared.Car.{Car}
 use Rattle.world.specs.declared.ServiceMode.{ServiceMode}
-use Rattle.world.specs.declared.SpeedOption.{SpeedOption}
+use Rattle.std.specs.declared.option.Option.{Option}
 use Rattle.world.specs.declared.refusal.Refusal.TheVariants.{NotNow, NotLoaded}
 use Rattle.changes.specs.declared.Changed.{Changed}
 use Rattle.world.specs.Refusal.{Check, check, unless}
@@ -29,12 +29,12 @@ set_mode w car mode =
     unless (order_checks w car) (refused w) (accepted (with_car w car (in_mode (car_at w.cars car) mode)))
 
 -- 7 manual speed
-abbrev pub at_speed : Car → SpeedOption → Car
+abbrev pub at_speed : Car → Option Float → Car
 at_speed c speed =
     with_orders c c.phase c.service_mode c.enabled c.repositioning c.target_stop speed
     c.destination_queue c.destination_count c.door_command_queue c.command_count
 
-unfoldable pub set_manual_speed : World → ℕ → SpeedOption → Changed
+unfoldable pub set_manual_speed : World → ℕ → Option Float → Changed
 set_manual_speed w car speed =
     unless (order_checks w car) (refused w) (accepted (with_car w car (at_speed (car_at w.cars car) speed)))
 

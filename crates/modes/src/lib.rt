@@ -4,9 +4,9 @@
 ghost use Rattle.std.specs.Prelude.{◌≡◌};
 ghost use Rattle.modes.specs.Modes as Modes;
 
-use changes::{Changed, Hindered, ordered, row_of};
+use changes::{Changed, ordered, row_of};
 use world::with::with_orders;
-use world::{ServiceMode, SpeedOption, World};
+use world::{ServiceMode, World};
 
 // Kind 6.
 pub fn set_mode(world: World, car: u8, mode: ServiceMode) -> Changed
@@ -17,11 +17,11 @@ pub fn set_mode(world: World, car: u8, mode: ServiceMode) -> Changed
     let target = row.target_stop;
     let speed = row.manual_target_velocity;
     let next = with_orders(row, phase, mode, row.repositioning, target, speed);
-    ordered(world, car, false, Hindered::No, next)
+    ordered(world, car, false, None, next)
 }
 
 // Kind 7.
-pub fn set_manual_speed(world: World, car: u8, speed: SpeedOption) -> Changed
+pub fn set_manual_speed(world: World, car: u8, speed: Option<f64>) -> Changed
     ensures { result ≡ Modes.set_manual_speed world car speed }
 {
     let row = row_of(world, car);
@@ -29,7 +29,7 @@ pub fn set_manual_speed(world: World, car: u8, speed: SpeedOption) -> Changed
     let mode = row.service_mode;
     let target = row.target_stop;
     let next = with_orders(row, phase, mode, row.repositioning, target, speed);
-    ordered(world, car, false, Hindered::No, next)
+    ordered(world, car, false, None, next)
 }
 
 // Kind B.
@@ -38,5 +38,5 @@ pub fn set_enabled(world: World, car: u8, enabled: bool) -> Changed
 {
     let mut row = row_of(world, car);
     row.enabled = enabled;
-    ordered(world, car, false, Hindered::No, row)
+    ordered(world, car, false, None, row)
 }

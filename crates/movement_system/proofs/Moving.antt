@@ -16,8 +16,8 @@ use Rattle.world.specs.declared.Car.{Car}
 use Rattle.world.specs.declared.Line.{Line}
 use Rattle.world.specs.declared.LineKind.{LineKind}
 use Rattle.world.specs.declared.LineKind.TheVariants.{Linear, Loop}
-use Rattle.leader.specs.declared.LeaderOption.{LeaderOption}
-use Rattle.leader.specs.declared.LeaderOption.TheVariants.{NoLeader, At}
+use Rattle.std.specs.declared.option.Option.{Option}
+use Rattle.std.specs.declared.option.Option.TheVariants.{None, Some}
 use Rattle.log_writes.specs.Log.{Wrote}
 use Rattle.log_writes.proofs.Writing.{also, wrote_none}
 use Rattle.steps.specs.Steps.{Step, line_of, lamps_of, step_of, stepped, not_opened, run_to, run_cars}
@@ -47,7 +47,7 @@ pub kind_of_lem : (lines : List Line) (line : ℕ) (kind : LineKind) → ((line 
 unfolding line_of
 kind_of_lem lines line kind h = ⊎_elim (λ z. z.1 ∙ rw (lt-ltb _ _ z.0)) (λ z. z.1 ∙ rw (le-ltb _ _ z.0)) h
 
-any_leader : (trip : Trip) (kind : LineKind) (l l' : LeaderOption) (c : Car) (stops : List Float) (dt : Float) → is_loop kind ≡ false
+any_leader : (trip : Trip) (kind : LineKind) (l l' : Option Float) (c : Car) (stops : List Float) (dt : Float) → is_loop kind ≡ false
     → landing trip kind l c stops dt ≡ landing trip kind l' c stops dt
 any_leader Rests kind l l' c stops dt h = refl
 any_leader Drives Linear l l' c stops dt h = refl
@@ -58,12 +58,12 @@ any_leader (Repositions s) Linear l l' c stops dt h = refl
 any_leader (Repositions s) (Loop x y) l l' c stops dt h = yes h
 
 -- no Manual car arrives: whoever does comes to its stop
-came : (trip : Trip) (kind : LineKind) (l : LeaderOption) (c : Car) (stops : List Float) (dt : Float) → is_trip trip ≡ true
+came : (trip : Trip) (kind : LineKind) (l : Option Float) (c : Car) (stops : List Float) (dt : Float) → is_trip trip ≡ true
     → comes trip (landing trip kind l c stops dt).arrived ≡ (landing trip kind l c stops dt).arrived
 came Rests kind l c stops dt t = no t
 came Drives Linear l c stops dt t = refl
-came Drives (Loop x y) NoLeader c stops dt t = refl
-came Drives (Loop x y) (At z) c stops dt t = refl
+came Drives (Loop x y) None c stops dt t = refl
+came Drives (Loop x y) (Some z) c stops dt t = refl
 came (GoesTo s) kind l c stops dt t = refl
 came (Repositions s) kind l c stops dt t = refl
 
@@ -76,7 +76,7 @@ unfolding move_of
 rests dt w i trip et h = rw (← et, h)
 
 -- by the leader and the remaining work, where they were looked for
-pub moves : (dt : Float) (w : World) (i : ℕ) (trip : Trip) (kind : LineKind) (leader : LeaderOption) (r : MovementResult) (lamps : Lamps)
+pub moves : (dt : Float) (w : World) (i : ℕ) (trip : Trip) (kind : LineKind) (leader : Option Float) (r : MovementResult) (lamps : Lamps)
     → trip ≡ trip_of (car_at w.cars i) → kind ≡ (line_of w.lines (car_at w.cars i).line).kind
     → (is_loop kind ≡ false) ⊎ (leader ≡ leader_of kind w.cars w.car_count i (car_at w.cars i))
     → r ≡ landing trip kind leader (car_at w.cars i) w.stops dt
@@ -163,12 +163,12 @@ pub cars_kept : {turn : World → ℕ → Step} {world w : World} {l l' : List �
 cars_kept {turn} {world} {w} {l} {l'} {at} {i} k = ap (λ (z : World). z.car_count) k.left ∙ kept turn world (λ (z : World). z.car_count) (λ v j s. refl) i
 
 -- the hall calls that stand, after the doors' turns
-pub calls_kept : {turn : World → ℕ → Step} {world w : World} {l l' : List ℕ} {at i to : ℕ} {opened : List JustOpened} → Runs turn world l at i w opened l' to
+pub calls_kept : {turn : World → ℕ → Step} {world w : World} {l l' : List ℕ} {at i to : ℕ} {opened : List (Option JustOpened)} → Runs turn world l at i w opened l' to
     → standing w ≡ standing world
 calls_kept {turn} {world} {w} {l} {l'} {at} {i} k = ap standing k.left ∙ kept turn world standing (λ v j s. refl) i
 
 -- the same calls cleared by the same cars
-pub cleared : (opened : List JustOpened) {a b : Standing} {n m : ℕ} {l l' : List ℕ} {at : ℕ} {r : Calls} → a ≡ b → n ≡ m
+pub cleared : (opened : List (Option JustOpened)) {a b : Standing} {n m : ℕ} {l l' : List ℕ} {at : ℕ} {r : Calls} → a ≡ b → n ≡ m
     → Clears (clear_to opened a n) (clear_words_to opened a n) l at l' r → Clears (clear_to opened b m) (clear_words_to opened b m) l at l' r
 cleared opened e f h = rw (← e, ← f) h
 
@@ -182,7 +182,7 @@ doored_after dt world k e h = (rw (← k.left) e, rw (← k.left) (also k.wrote 
 -- ---- one turn more, as the code makes it
 
 -- the car goes on
-pub goes_on_lem : (dt : Float) (world w w' : World) (l l' l'' l''' : List ℕ) (at i n to to' : ℕ) (trip : Trip) (kind : LineKind) (leader : LeaderOption) (r : MovementResult) (lamps : Lamps)
+pub goes_on_lem : (dt : Float) (world w w' : World) (l l' l'' l''' : List ℕ) (at i n to to' : ℕ) (trip : Trip) (kind : LineKind) (leader : Option Float) (r : MovementResult) (lamps : Lamps)
     (x : Emitted) (m total : ℕ) (distance : Float) → Moves (move_of dt) world l at i w l' to → n ≡ min world.stop_count 64
     → trip ≡ trip_of (car_at w.cars i) → is_trip trip ≡ true
     → (((car_at w.cars i).line < 8) × (kind ≡ (line_at w.lines (car_at w.cars i).line).kind)) ⊎ ((8 ≤ (car_at w.cars i).line) × (kind ≡ Linear))
@@ -206,7 +206,7 @@ goes_on_lem dt world w w' l l' l'' l''' at i n to to' trip kind leader r lamps x
     more k e left (rw (el, eto) tells.wrote)
 
 -- it comes to its stop
-pub comes_in : (dt : Float) (world w w' : World) (l l' l'' l''' : List ℕ) (at i n to to' : ℕ) (trip : Trip) (kind : LineKind) (leader : LeaderOption) (r : MovementResult) (lamps : Lamps)
+pub comes_in : (dt : Float) (world w w' : World) (l l' l'' l''' : List ℕ) (at i n to to' : ℕ) (trip : Trip) (kind : LineKind) (leader : Option Float) (r : MovementResult) (lamps : Lamps)
     (x : Emitted) (m total : ℕ) (distance : Float) (c : Car) → Moves (move_of dt) world l at i w l' to → n ≡ min world.stop_count 64
     → trip ≡ trip_of (car_at w.cars i) → is_trip trip ≡ true
     → (((car_at w.cars i).line < 8) × (kind ≡ (line_at w.lines (car_at w.cars i).line).kind)) ⊎ ((8 ≤ (car_at w.cars i).line) × (kind ≡ Linear))

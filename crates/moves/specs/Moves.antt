@@ -5,9 +5,8 @@ use Rattle.door.specs.Door.{request_open}
 use Rattle.world.specs.declared.Car.{Car}
 use Rattle.world.specs.declared.LineKind.{LineKind}
 use Rattle.world.specs.declared.ElevatorPhase.TheVariants.{Idle, DoorOpening}
-use Rattle.world.specs.declared.StopOption.{StopOption}
-use Rattle.world.specs.declared.StopOption.TheVariants.{NoStop, Stop}
-use Rattle.world.specs.declared.TickOption.TheVariants.{AtTick}
+use Rattle.std.specs.declared.option.Option.{Option}
+use Rattle.std.specs.declared.option.Option.TheVariants.{None, Some}
 use Rattle.log_words.specs.Words.{word_of}
 use Rattle.log_words.specs.declared.Event.TheVariants.{ElevatorArrived, ElevatorRepositioned, ElevatorIdle}
 use Rattle.steps.specs.Steps.{both_lit, update_indicators}
@@ -29,11 +28,11 @@ comes (GoesTo s) arrived = arrived
 comes (Repositions s) arrived = arrived
 
 -- the stop that a car goes to
-abbrev pub goal : Trip → StopOption
-goal Rests = NoStop
-goal Drives = NoStop
-goal (GoesTo s) = Stop s
-goal (Repositions s) = Stop s
+abbrev pub goal : Trip → Option ℕ
+goal Rests = None
+goal Drives = None
+goal (GoesTo s) = Some s
+goal (Repositions s) = Some s
 
 -- what a tick sweeps over
 abbrev pub swept : Trip → LineKind → Float → MovementResult → Span
@@ -56,7 +55,7 @@ come Drives c lamps tick = c
 come (GoesTo s) c lamps tick =
     with_arrived c DoorOpening (request_open c.door_transition_ticks c.door_open_ticks) c.target_stop c.repositioning lamps (popped c s)
     c.cooldown
-come (Repositions s) c lamps tick = with_arrived c Idle c.door NoStop false both_lit (popped c s) (AtTick (plus tick 240))
+come (Repositions s) c lamps tick = with_arrived c Idle c.door None false both_lit (popped c s) (Some (plus tick 240))
 
 -- the reposition distance after a tick: run, `if is_repositioning`
 abbrev pub distance_by : Trip → LineKind → Float → Float → Float → Float

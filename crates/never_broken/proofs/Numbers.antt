@@ -17,10 +17,8 @@ use Rattle.world.specs.declared.ElevatorPhase.{ElevatorPhase}
 use Rattle.world.specs.declared.ElevatorPhase.TheVariants.{Idle, MovingToStop, Repositioning, DoorOpening, Loading, DoorClosing, Stopped}
 use Rattle.world.specs.declared.RiderPhase.{RiderPhase}
 use Rattle.world.specs.declared.RiderPhase.TheVariants.{Waiting, Boarding, Riding, Exiting, Walking, Arrived, Abandoned, Resident}
-use Rattle.world.specs.declared.StopOption.{StopOption}
-use Rattle.world.specs.declared.StopOption.TheVariants.{NoStop, Stop}
-use Rattle.world.specs.declared.CarOption.{CarOption}
-use Rattle.world.specs.declared.CarOption.TheVariants.{NoCar, OfCar}
+use Rattle.std.specs.declared.option.Option.{Option}
+use Rattle.std.specs.declared.option.Option.TheVariants.{None, Some}
 use Rattle.call_sets.proofs.Bits.{bit_room}
 use Rattle.laws.proofs.Choices.{both, cases}
 
@@ -65,13 +63,13 @@ module _ (a b : ℕ) (more : a ≤ b) where
   pub still_loaded : (s : ℕ) → unloaded a s ≡ false → unloaded b s ≡ false
   still_loaded s h = lt-leb b s (omega (arith, leb-false a s h))
 
-  pub stop_stays : (s : StopOption) → stop_unloaded a s ≡ false → stop_unloaded b s ≡ false
-  stop_stays NoStop h = refl
-  stop_stays (Stop s) h = still_loaded s h
+  pub stop_stays : (s : Option ℕ) → stop_unloaded a s ≡ false → stop_unloaded b s ≡ false
+  stop_stays None h = refl
+  stop_stays (Some s) h = still_loaded s h
 
-  car_stays : (c : CarOption) → car_unloaded a c ≡ false → car_unloaded b c ≡ false
-  car_stays NoCar h = refl
-  car_stays (OfCar i) h = still_loaded i h
+  car_stays : (c : Option ℕ) → car_unloaded a c ≡ false → car_unloaded b c ≡ false
+  car_stays None h = refl
+  car_stays (Some i) h = still_loaded i h
 
   pub phase_stays : (p : ElevatorPhase) → phase_unloaded a p ≡ false → phase_unloaded b p ≡ false
   phase_stays Idle h = refl

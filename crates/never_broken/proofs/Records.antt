@@ -26,7 +26,7 @@ use Rattle.world.specs.declared.Rider.{Rider}
 use Rattle.world.specs.declared.ElevatorPhase.{ElevatorPhase}
 use Rattle.world.specs.declared.ElevatorPhase.TheVariants.{MovingToStop, Repositioning}
 use Rattle.world.specs.declared.ServiceMode.{ServiceMode}
-use Rattle.world.specs.declared.SpeedOption.{SpeedOption}
+use Rattle.std.specs.declared.option.Option.{Option}
 use Rattle.world.specs.declared.refusal.Refusal.{Refusal}
 use Rattle.tape.specs.Tape.{decoded}
 use Rattle.tape.specs.Facts.{InBounds, Facts}
@@ -42,8 +42,8 @@ use Rattle.changes.specs.declared.Changed.{Changed}
 use Rattle.orders.specs.Orders.{send_checks, sent, send}
 use Rattle.modes.specs.Modes.{order_checks, in_mode, at_speed, marked, set_mode, set_manual_speed, set_enabled}
 use Rattle.requests.specs.Requests.{command_checks, call_checks, destination_checks, commanded, destined, queue_command, press_hall_call, push_destination}
-use Rattle.record.specs.declared.Answer.{Answer}
-use Rattle.record.specs.declared.Answer.TheVariants.{Accepted, Refused}
+use Rattle.record.specs.Record.{Answer}
+use Rattle.std.specs.Prelude.{Ok, Err}
 use Rattle.record_kinds.specs.Kinds.{change_by}
 use Rattle.record.specs.Record.{Outcome, refused, changed, checks_of_tick, ticked, tick_once, read_by, record_of}
 use Rattle.laws.proofs.Choices.{both, cases}
@@ -55,8 +55,8 @@ use Rattle.never_broken.proofs.Whole.{whole}
 
 -- the number of a refusal; 13 stands for an accepted record
 abbrev pub number_of : Answer → ℕ
-number_of (Accepted used written) = 13
-number_of (Refused r) = refusal_number r
+number_of (Ok a) = 13
+number_of (Err r) = refusal_number r
 
 -- an outcome whose world is sound and whose answer is not refusal 0
 pub record Good (o : Outcome) : Type 0 where
@@ -258,7 +258,7 @@ module _ (w : World) (h : Sound w) (log : List ℕ) (used : ℕ) where
       (λ q. order_keeps car (in_mode (car_at w.cars car) mode) q.1.0 refl
       (λ c. record { commands = c.commands; line = c.line; phase = c.phase; target = c.target; queue = c.queue }))
 
-  speed_keeps : (car : ℕ) (speed : SpeedOption) → Keeps (set_manual_speed w car speed)
+  speed_keeps : (car : ℕ) (speed : Option Float) → Keeps (set_manual_speed w car speed)
   unfolding set_manual_speed
   speed_keeps car speed =
       unless_keeps (order_checks w car) _ refl

@@ -17,8 +17,8 @@ use Rattle.world.specs.declared.LineKind.{LineKind}
 use Rattle.world.specs.declared.LineKind.TheVariants.{Linear, Loop}
 use Rattle.world.specs.declared.ElevatorPhase.{ElevatorPhase}
 use Rattle.world.specs.declared.ElevatorPhase.TheVariants.{Loading, DoorClosing}
-use Rattle.world.specs.declared.StopOption.{StopOption}
-use Rattle.world.specs.declared.StopOption.TheVariants.{NoStop, Stop}
+use Rattle.std.specs.declared.option.Option.{Option}
+use Rattle.std.specs.declared.option.Option.TheVariants.{None, Some}
 use Rattle.next_stop.specs.NextStop.{loop_next_stop_forward, next_stop_by, loop_next_stop_for_car}
 use Rattle.next_stop.proofs.Served.{next_is_served}
 use Rattle.steps.specs.Steps.{line_of}
@@ -88,9 +88,9 @@ move_in lines stops dt w i h =
 
 -- ---- the loop's next stop is one of the line's list
 
-stop_known : (stops : ℕ) (t : StopOption) → ((s : ℕ) → t ≡ Stop s → unloaded stops s ≡ false) → stop_unloaded stops t ≡ false
-stop_known stops NoStop f = refl
-stop_known stops (Stop s) f = f s refl
+stop_known : (stops : ℕ) (t : Option ℕ) → ((s : ℕ) → t ≡ Some s → unloaded stops s ≡ false) → stop_unloaded stops t ≡ false
+stop_known stops None f = refl
+stop_known stops (Some s) f = f s refl
 
 forward_in : (stops : ℕ) (l : Line) → line_broken stops l ≡ false → (positions : List Float) (circumference position : Float)
     → stop_unloaded stops (loop_next_stop_forward positions circumference l.serves l.serves_count position) ≡ false
@@ -102,7 +102,7 @@ next_by_in : (stops : ℕ) (kind : LineKind) (l : Line) → line_broken stops l 
     → stop_unloaded stops (next_stop_by kind l positions position) ≡ false
 next_by_in stops Linear l h positions position = refl
 next_by_in stops (Loop circumference headway) l h positions position =
-    both (λ (s : StopOption). stop_unloaded stops s ≡ false) l.listed (forward_in stops l h positions circumference position) refl
+    both (λ (s : Option ℕ). stop_unloaded stops s ≡ false) l.listed (forward_in stops l h positions circumference position) refl
 
 pub next_in : (stops : ℕ) (l : Line) → line_broken stops l ≡ false → (positions : List Float) (position : Float)
     → stop_unloaded stops (loop_next_stop_for_car l positions position) ≡ false
@@ -120,7 +120,7 @@ module _ (lines stops i : ℕ) (c : Car) (h : CarIn lines stops c) where
   abbrev Leaves : Turn → Type 0
   Leaves t = CarIn lines stops t.car
 
-  pub door_in : (here traversing : Bool) (next : StopOption) → stop_unloaded stops next ≡ false → Leaves (door_turn i c here traversing next)
+  pub door_in : (here traversing : Bool) (next : Option ℕ) → stop_unloaded stops next ≡ false → Leaves (door_turn i c here traversing next)
   door_in here traversing next m =
       both Leaves c.enabled
       (door_cases Leaves i c k next (λ d. rests_in k.phase d (commands_keep (λ p d. phase_unloaded stops p ≡ false) (λ a b. refl) (λ a. refl) (λ a b cd l. l) c here traversing h.phase))

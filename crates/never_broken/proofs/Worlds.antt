@@ -12,8 +12,8 @@ use Rattle.world.specs.declared.World.{World}
 use Rattle.world.specs.declared.Car.{Car}
 use Rattle.world.specs.declared.Line.{Line}
 use Rattle.world.specs.declared.Rider.{Rider}
-use Rattle.world.specs.declared.StopOption.{StopOption}
-use Rattle.world.specs.declared.StopOption.TheVariants.{NoStop, Stop}
+use Rattle.std.specs.declared.option.Option.{Option}
+use Rattle.std.specs.declared.option.Option.TheVariants.{None, Some}
 use Rattle.next_stop.specs.NextStop.{loop_next_stop_for_car}
 use Rattle.steps.specs.Steps.{line_of, Step, stepped, run_to, run_cars}
 use Rattle.steps.proofs.Cars.{by_turns}
@@ -153,17 +153,17 @@ record Fewer (h k : Standing) : Type 0 where
   up : k.up ≤ h.up
   down : k.down ≤ h.down
 
-clear_matching_lem : (stop : StopOption) (o : JustOpened) (h k : Standing) → Fewer h k → Fewer h (clear_matching stop o k)
-clear_matching_lem NoStop o h k p = p
-clear_matching_lem (Stop s) o h k p = record {
-  up = omega (arith, clear_one_lem k.up s o.going_up, p.up);
-  down = omega (arith, clear_one_lem k.down s o.going_down, p.down);
+clear_matching_lem : (o : Option JustOpened) (h k : Standing) → Fewer h k → Fewer h (clear_matching o k)
+clear_matching_lem None h k p = p
+clear_matching_lem (Some o) h k p = record {
+  up = omega (arith, clear_one_lem k.up o.stop o.going_up, p.up);
+  down = omega (arith, clear_one_lem k.down o.stop o.going_down, p.down);
 }
 
-clear_to_lem : (opened : List JustOpened) (h : Standing) (n : ℕ) → Fewer h (clear_to opened h n)
+clear_to_lem : (opened : List (Option JustOpened)) (h : Standing) (n : ℕ) → Fewer h (clear_to opened h n)
 unfolding clear_to
 clear_to_lem opened h zero = record { up = omega arith; down = omega arith }
-clear_to_lem opened h (suc n) = clear_matching_lem (opened_of opened h n).stop (opened_of opened h n) h (clear_to opened h n) (clear_to_lem opened h n)
+clear_to_lem opened h (suc n) = clear_matching_lem (opened_of opened h n) h (clear_to opened h n) (clear_to_lem opened h n)
 
 doors_ran : (w : World) → Shape w → Ran w (doors_world w)
 unfolding doors_world

@@ -3,13 +3,13 @@ use Rattle.std.specs.Prelude.{◌≡◌, false, List}
 use Rattle.sound.specs.Sound.{broken}
 use Rattle.world.specs.declared.World.{World}
 use Rattle.world.specs.declared.refusal.Refusal.TheVariants.{BrokenWorld}
-use Rattle.record.specs.declared.Answer.TheVariants.{Refused}
+use Rattle.std.specs.Prelude.{Ok, Err}
 use Rattle.record.specs.Calls.{Empty, Call, outcome, world_after}
 
 -- a world that is not broken, so that no call in it, whatever its words and log, is refused 0
 pub record Unbroken (w : World) : Type 0 where
   pub world : broken w ≡ false
-  pub answer : (c : Call) → (outcome w c).answer ≡ Refused BrokenWorld → ⊥
+  pub answer : (c : Call) → (outcome w c).answer ≡ Err BrokenWorld → ⊥
 
 -- every list of calls from an empty world leaves such a world: any words, any logs, Manual mode too
 unfoldable pub NeverBroken : Type 0

@@ -11,35 +11,34 @@ use Rattle.motion.specs.Cyclic.{degenerate}
 use Rattle.world.specs.World.{stop_at}
 use Rattle.lookup.specs.Stops.{stands_at, first_standing, find_stop_at_position, find_stop_at_position_in}
 use Rattle.next_stop.specs.NextStop.{ahead_of, nearer, nearest_to, stop_of, loop_next_stop_forward}
-use Rattle.world.specs.declared.StopOption.TheVariants.{NoStop, Stop}
-use Rattle.next_stop.specs.declared.Nearest.{Nearest}
-use Rattle.next_stop.specs.declared.Nearest.TheVariants.{NoneYet, Found}
+use Rattle.std.specs.declared.option.Option.TheVariants.{None, Some}
+use Rattle.std.specs.declared.option.Option.{Option}
 
 -- s is the candidate at a place from i on, below n
 abbrev pub Among : (ℕ → ℕ) → ℕ → ℕ → ℕ → Type 0
 Among candidate i n s = (j : ℕ) × ((i ≤ j) × (j < n) × (candidate j ≡ s))
 
-none_is_no_stop : {A : Type 0} (s : ℕ) → NoStop ≡ Stop s → A
+none_is_no_stop : {A : Type 0} (s : ℕ) → None ≡ Some s → A
 none_is_no_stop s h = let z : ◌≡◌ {A = ℕ} 0 1 = cc in absurd (omega arith)
 
-first_among : (stops : List Float) (position : Float) (candidate : ℕ → ℕ) (m i s : ℕ) → first_standing stops position candidate m i ≡ Stop s → Among candidate i (i + m) s
+first_among : (stops : List Float) (position : Float) (candidate : ℕ → ℕ) (m i s : ℕ) → first_standing stops position candidate m i ≡ Some s → Among candidate i (i + m) s
 unfolding first_standing
 first_among stops position candidate zero i s h = none_is_no_stop s h
 first_among stops position candidate (suc m) i s h =
     by (stands_at (stop_at stops (candidate i)) position) h (λ k. first_among stops position candidate m (i + 1) s k)
   where
-    by : (b : Bool) → cond b (Stop (candidate i)) (first_standing stops position candidate m (i + 1)) ≡ Stop s
-        → (first_standing stops position candidate m (i + 1) ≡ Stop s → Among candidate (i + 1) (i + 1 + m) s) → Among candidate i (i + suc m) s
+    by : (b : Bool) → cond b (Some (candidate i)) (first_standing stops position candidate m (i + 1)) ≡ Some s
+        → (first_standing stops position candidate m (i + 1) ≡ Some s → Among candidate (i + 1) (i + 1 + m) s) → Among candidate i (i + suc m) s
     by true k f = (i, (omega arith, omega arith, cc))
     by false k f = let r = f k in (r.0, (omega (arith, r.1.0), omega (arith, r.1.1), r.1.2))
 
-pub found_is_loaded : (stops : List Float) (count : ℕ) (position : Float) (s : ℕ) → find_stop_at_position stops count position ≡ Stop s → s < min count 64
+pub found_is_loaded : (stops : List Float) (count : ℕ) (position : Float) (s : ℕ) → find_stop_at_position stops count position ≡ Some s → s < min count 64
 unfolding find_stop_at_position
 found_is_loaded stops count position s h =
     let r = first_among stops position (λ (k : ℕ). k) (min count 64) 0 s h in
     omega (arith, r.1.1, r.1.2)
 
-pub found_is_served : (stops : List Float) (position : Float) (serves : List ℕ) (count s : ℕ) → find_stop_at_position_in stops position serves count ≡ Stop s
+pub found_is_served : (stops : List Float) (position : Float) (serves : List ℕ) (count s : ℕ) → find_stop_at_position_in stops position serves count ≡ Some s
     → (j : ℕ) × ((j < min count 64) × (get_or serves j 0 ≡ s))
 unfolding find_stop_at_position_in
 found_is_served stops position serves count s h =
@@ -47,16 +46,16 @@ found_is_served stops position serves count s h =
     (r.0, (omega (arith, r.1.1), r.1.2))
 
 -- the nearer is the best so far, or the new one
-one_of_two : {A : Type 0} (best : Nearest) (d : Float) (t s : ℕ) → stop_of (nearer best d t) ≡ Stop s → (stop_of best ≡ Stop s → A) → (t ≡ s → A) → A
-one_of_two NoneYet d t s h f g = g (cc)
-one_of_two {A} (Found b u) d t s h f g = by (le b d) h
+one_of_two : {A : Type 0} (best : Option (Float × ℕ)) (d : Float) (t s : ℕ) → stop_of (nearer best d t) ≡ Some s → (stop_of best ≡ Some s → A) → (t ≡ s → A) → A
+one_of_two None d t s h f g = g (cc)
+one_of_two {A} (Some (b, u)) d t s h f g = by (le b d) h
   where
-    by : (q : Bool) → stop_of (cond q (Found b u) (Found d t)) ≡ Stop s → A
+    by : (q : Bool) → stop_of (cond q (Some (b, u)) (Some (d, t))) ≡ Some s → A
     by true k = f k
     by false k = g (cc)
 
 nearest_is_served : (stops : List Float) (circumference : Float) (serves : List ℕ) (position : Float) (n s : ℕ)
-    → stop_of (nearest_to stops circumference serves position n) ≡ Stop s → (j : ℕ) × ((j < n) × (get_or serves j 0 ≡ s))
+    → stop_of (nearest_to stops circumference serves position n) ≡ Some s → (j : ℕ) × ((j < n) × (get_or serves j 0 ≡ s))
 unfolding nearest_to
 nearest_is_served stops circumference serves position zero s h = none_is_no_stop s h
 nearest_is_served stops circumference serves position (suc n) s h =
@@ -70,10 +69,10 @@ nearest_is_served stops circumference serves position (suc n) s h =
     (λ e. (n, (omega arith, e)))
 
 pub next_is_served : (stops : List Float) (circumference : Float) (serves : List ℕ) (count : ℕ) (position : Float) (s : ℕ)
-    → loop_next_stop_forward stops circumference serves count position ≡ Stop s → (j : ℕ) × ((j < min count 64) × (get_or serves j 0 ≡ s))
+    → loop_next_stop_forward stops circumference serves count position ≡ Some s → (j : ℕ) × ((j < min count 64) × (get_or serves j 0 ≡ s))
 unfolding loop_next_stop_forward
 next_is_served stops circumference serves count position s h = by (not (is_finite position) || degenerate circumference) h
   where
-    by : (b : Bool) → cond b NoStop (stop_of (nearest_to stops circumference serves position (min count 64))) ≡ Stop s → (j : ℕ) × ((j < min count 64) × (get_or serves j 0 ≡ s))
+    by : (b : Bool) → cond b None (stop_of (nearest_to stops circumference serves position (min count 64))) ≡ Some s → (j : ℕ) × ((j < min count 64) × (get_or serves j 0 ≡ s))
     by true k = none_is_no_stop s k
     by false k = nearest_is_served stops circumference serves position (min count 64) s k

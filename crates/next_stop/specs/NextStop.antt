@@ -7,10 +7,8 @@ use Rattle.world.specs.World.{stop_at}
 use Rattle.world.specs.declared.Line.{Line}
 use Rattle.world.specs.declared.LineKind.{LineKind}
 use Rattle.world.specs.declared.LineKind.TheVariants.{Linear, Loop}
-use Rattle.world.specs.declared.StopOption.{StopOption}
-use Rattle.world.specs.declared.StopOption.TheVariants.{NoStop, Stop}
-use Rattle.next_stop.specs.declared.Nearest.{Nearest}
-use Rattle.next_stop.specs.declared.Nearest.TheVariants.{NoneYet, Found}
+use Rattle.std.specs.declared.option.Option.{Option}
+use Rattle.std.specs.declared.option.Option.TheVariants.{None, Some}
 
 -- how far a stop is ahead: the whole circle where the car stands at it
 unfoldable pub ahead_of : Float → Float → Float → Float
@@ -18,32 +16,32 @@ ahead_of circumference position stop =
     let d = forward_distance position stop circumference in
     cond (le d epsilon) circumference d
 
--- the nearer of two, the earlier where neither is
-abbrev pub nearer : Nearest → Float → ℕ → Nearest
-nearer NoneYet d s = Found d s
-nearer (Found best stop) d s = cond (le best d) (Found best stop) (Found d s)
+-- the nearer of two with their distances, the earlier where neither is
+abbrev pub nearer : Option (Float × ℕ) → Float → ℕ → Option (Float × ℕ)
+nearer None d s = Some (d, s)
+nearer (Some (best, stop)) d s = cond (le best d) (Some (best, stop)) (Some (d, s))
 
 -- the nearest ahead of the list's first i. A number past the table has no position; refusal 0 keeps it away.
-unfoldable pub nearest_to : List Float → Float → List ℕ → Float → ℕ → Nearest
-nearest_to stops circumference serves position zero = NoneYet
+unfoldable pub nearest_to : List Float → Float → List ℕ → Float → ℕ → Option (Float × ℕ)
+nearest_to stops circumference serves position zero = None
 nearest_to stops circumference serves position (suc i) =
     nearer (nearest_to stops circumference serves position i) (ahead_of circumference position (stop_at stops (get_or serves i 0))) (get_or serves i 0)
 
 -- the stop, without its distance
-abbrev pub stop_of : Nearest → StopOption
-stop_of NoneYet = NoStop
-stop_of (Found d s) = Stop s
+abbrev pub stop_of : Option (Float × ℕ) → Option ℕ
+stop_of None = None
+stop_of (Some (d, s)) = Some s
 
 -- dispatch/mod.rs, loop_next_stop_forward: none where there is no circle or no position, and for an empty list
-unfoldable pub loop_next_stop_forward : List Float → Float → List ℕ → ℕ → Float → StopOption
+unfoldable pub loop_next_stop_forward : List Float → Float → List ℕ → ℕ → Float → Option ℕ
 loop_next_stop_forward stops circumference serves count position =
-    cond (not (is_finite position) || degenerate circumference) NoStop (stop_of (nearest_to stops circumference serves position (min count 64)))
+    cond (not (is_finite position) || degenerate circumference) None (stop_of (nearest_to stops circumference serves position (min count 64)))
 
 -- dispatch/mod.rs, loop_next_stop_for_car. "Without a list .. a loop car has no next stop"
-abbrev pub next_stop_by : LineKind → Line → List Float → Float → StopOption
-next_stop_by Linear line stops position = NoStop
+abbrev pub next_stop_by : LineKind → Line → List Float → Float → Option ℕ
+next_stop_by Linear line stops position = None
 next_stop_by (Loop circumference headway) line stops position =
-    cond line.listed (loop_next_stop_forward stops circumference line.serves line.serves_count position) NoStop
+    cond line.listed (loop_next_stop_forward stops circumference line.serves line.serves_count position) None
 
-unfoldable pub loop_next_stop_for_car : Line → List Float → Float → StopOption
+unfoldable pub loop_next_stop_for_car : Line → List Float → Float → Option ℕ
 loop_next_stop_for_car line stops position = next_stop_by line.kind line stops position

@@ -5,17 +5,9 @@ ghost use Rattle.std.specs.Prelude.{◌≡◌};
 ghost use Rattle.next_stop.specs.NextStop.{ahead_of, nearer, stop_of, loop_next_stop_forward, loop_next_stop_for_car};
 
 use float::{EPSILON, is_finite};
-use laws::at_most;
 use lookup::stops::stop_position;
 use motion::cyclic::forward_distance;
-use world::{Line, LineKind, StopOption};
-
-// The nearest stop ahead so far.
-#[derive(Clone, Copy)]
-enum Nearest {
-    NoneYet,
-    Found { distance: f64, stop: u8 },
-}
+use world::{Line, LineKind};
 
 // How far a stop is ahead on a loop; the whole circle where the car stands at it.
 fn ahead_of(circumference: f64, position: f64, stop: f64) -> f64
@@ -25,35 +17,21 @@ fn ahead_of(circumference: f64, position: f64, stop: f64) -> f64
     if d <= EPSILON { circumference } else { d }
 }
 
-// The nearer of two stops, the earlier where neither is.
-fn nearer_of(best: Nearest, d: f64, s: u8) -> Nearest
+// The nearer of two stops with their distances, the earlier where neither is.
+fn nearer_of(best: Option<(f64, u8)>, d: f64, s: u8) -> Option<(f64, u8)>
     ensures { result ≡ nearer best d s }
 {
     match best {
-        Nearest::NoneYet => Nearest::Found {
-            distance: d,
-            stop: s,
-        },
-        Nearest::Found { distance, stop } => {
-            if distance <= d {
-                return best;
-            }
-            Nearest::Found {
-                distance: d,
-                stop: s,
-            }
-        }
+        Some((distance, _)) if distance <= d => best,
+        _ => Some((d, s)),
     }
 }
 
 // The stop, without its distance.
-fn stop_of(best: Nearest) -> StopOption
+fn stop_of(best: Option<(f64, u8)>) -> Option<u8>
     ensures { result ≡ stop_of best }
 {
-    match best {
-        Nearest::NoneYet => StopOption::NoStop,
-        Nearest::Found { distance: _, stop } => StopOption::Stop(stop),
-    }
+    best.map(|(_, stop)| stop)
 }
 
 // dispatch/mod.rs, loop_next_stop_forward
@@ -63,14 +41,14 @@ pub fn loop_next_stop_forward(
     serves: &[u8; 64],
     serves_count: usize,
     position: f64,
-) -> StopOption
+) -> Option<u8>
     ensures { result ≡ loop_next_stop_forward stops.now circumference serves.now serves_count position }
 {
     if !is_finite(position) | (!is_finite(circumference) | (circumference <= 0.0)) {
-        return StopOption::NoStop;
+        return None;
     }
-    let n = at_most(serves_count, 64);
-    let mut best = Nearest::NoneYet;
+    let n = serves_count.min(64);
+    let mut best = None;
     let mut i: usize = 0;
     while i < n {
         let s = serves[i];
@@ -85,12 +63,12 @@ pub fn loop_next_stop_forward(
 }
 
 // dispatch/mod.rs, loop_next_stop_for_car
-pub fn loop_next_stop_for_car(line: Line, stops: &[f64; 64], position: f64) -> StopOption
+pub fn loop_next_stop_for_car(line: Line, stops: &[f64; 64], position: f64) -> Option<u8>
     ensures { result ≡ loop_next_stop_for_car line stops.now position }
 {
     let kind = line.kind;
     match kind {
-        LineKind::Linear => StopOption::NoStop,
+        LineKind::Linear => None,
         LineKind::Loop {
             circumference,
             min_headway: _,
@@ -104,7 +82,7 @@ pub fn loop_next_stop_for_car(line: Line, stops: &[f64; 64], position: f64) -> S
                     position,
                 );
             }
-            StopOption::NoStop
+            None
         }
     }
 }

@@ -7,7 +7,7 @@ use Rattle.world.specs.declared.World.{World}
 use Rattle.world.specs.declared.Car.{Car}
 use Rattle.world.specs.declared.ElevatorPhase.{ElevatorPhase}
 use Rattle.world.specs.declared.ElevatorPhase.TheVariants.{Idle, MovingToStop, Repositioning, DoorOpening, Loading, DoorClosing, Stopped}
-use Rattle.world.specs.declared.StopOption.TheVariants.{Stop}
+use Rattle.std.specs.declared.option.Option.TheVariants.{Some}
 use Rattle.world.specs.declared.refusal.Refusal.TheVariants.{NotNow, NotLoaded, CannotGo}
 use Rattle.changes.specs.declared.Changed.{Changed}
 use Rattle.world.specs.Refusal.{Check, check, unless}
@@ -26,7 +26,7 @@ can_go Stopped = true
 -- 5 send (dispatch command): "sets phase, target and repositioning flag"
 abbrev pub sent : Car → ℕ → Bool → Car
 sent c stop reposition =
-    with_orders c (cond reposition (Repositioning stop) (MovingToStop stop)) c.service_mode c.enabled reposition (Stop stop) c.manual_target_velocity
+    with_orders c (cond reposition (Repositioning stop) (MovingToStop stop)) c.service_mode c.enabled reposition (Some stop) c.manual_target_velocity
     c.destination_queue c.destination_count c.door_command_queue c.command_count
 
 abbrev pub send_checks : World → ℕ → ℕ → List Check

@@ -4,11 +4,11 @@
 ghost use Rattle.std.specs.Prelude.{◌≡◌};
 ghost use Rattle.orders.specs.Orders as Orders;
 
-use changes::{Changed, Hindered, ordered, row_of};
+use changes::{Changed, ordered, row_of};
 use sound_rows::unloaded;
 use world::refusal::Refusal;
 use world::with::with_orders;
-use world::{Car, ElevatorPhase, StopOption, World};
+use world::{Car, ElevatorPhase, World};
 
 fn can_go(phase: ElevatorPhase) -> bool
     ensures { result ≡ Orders.can_go phase }
@@ -34,7 +34,7 @@ fn sent(car: Car, stop: u8, reposition: bool) -> Car
     } else {
         ElevatorPhase::MovingToStop(stop)
     };
-    with_orders(car, phase, mode, reposition, StopOption::Stop(stop), speed)
+    with_orders(car, phase, mode, reposition, Some(stop), speed)
 }
 
 // Kind 5.
@@ -45,8 +45,8 @@ pub fn send(world: World, car: u8, stop: u8, reposition: bool) -> Changed
     let unnamed = unloaded(world.stop_count, stop);
     let phase = row.phase;
     if !row.enabled | !can_go(phase) {
-        return ordered(world, car, unnamed, Hindered::By(Refusal::CannotGo), row);
+        return ordered(world, car, unnamed, Some(Refusal::CannotGo), row);
     }
     let next = sent(row, stop, reposition);
-    ordered(world, car, unnamed, Hindered::No, next)
+    ordered(world, car, unnamed, None, next)
 }

@@ -11,12 +11,11 @@ use Rattle.world.specs.declared.World.{World}
 use Rattle.world.specs.Refusal.{refusal_number}
 use Rattle.world.specs.declared.refusal.Refusal.{Refusal}
 use Rattle.world.specs.declared.refusal.Refusal.TheVariants.{CutShort}
-use Rattle.record.specs.declared.Answer.{Answer}
-use Rattle.record.specs.declared.Answer.TheVariants.{Accepted, Refused}
+use Rattle.record.specs.Record.{Answer}
+use Rattle.std.specs.Prelude.{Ok, Err}
 use Rattle.report.specs.declared.Counts.{Counts}
 use Rattle.report.specs.declared.Totals.{Totals}
-use Rattle.report.specs.declared.Reported.{Reported}
-use Rattle.report.specs.declared.Reported.TheVariants as Reported
+use Rattle.report.specs.Report.{Reported}
 use Rattle.report.specs.Report.{counted_report}
 use Rattle.study_text.specs.Text.{words_of, field, report_line, refused_line}
 use Rattle.study_numbers.specs.NumberText.{word_line, word_lines, decimal_to, decimal, text, newline}
@@ -87,14 +86,14 @@ report_length t =
 
 -- a record's text: a line of 9 bytes for each of the log's words at most
 pub told_length : (a : Answer) (log : List ℕ) → length log ≡ 2048 → length (told a log) ≤ 18432
-told_length (Accepted used written) log h = rw lines_length (simp length-take (omega arith))
-told_length (Refused r) log h = omega (arith, refused_length r)
+told_length (Ok a) log h = rw lines_length (simp length-take (omega arith))
+told_length (Err r) log h = omega (arith, refused_length r)
 
 pub ending_length : (w : World) (c : Counts) (left : ℕ) → length (ending w c left) ≤ 231
 unfolding ending
 ending_length w c zero = go (counted_report w c)
   where
     go : (r : Reported) → length (last_line r) ≤ 231
-    go (Reported.Counted t) = report_length t
-    go (Reported.Refused r) = omega (arith, refused_length r)
+    go (Ok t) = report_length t
+    go (Err r) = omega (arith, refused_length r)
 ending_length w c (suc left) = omega (arith, refused_length CutShort)

@@ -7,10 +7,9 @@ ghost use Rattle.pieces.specs.Pieces.{Gives, advanced, playing, play_to, fresh};
 ghost use Rattle.pieces.specs.Pieces.{goes as goes_on};
 ghost use Rattle.pieces.specs.Parts.{Reached, Closes};
 
-use laws::at_most;
 use lent::turn;
 use play::{finish, tell_answer};
-use record::{Answer, Recorded};
+use record::{Accepted, Recorded};
 use report::{Counts, no_counts};
 use study_text::{keep, words_of};
 use world::World;
@@ -80,10 +79,10 @@ fn play_words(
     ensures { Reached result piece.now out.old log.new out.new (play_to (2 + length piece.now) ended (playing study log.old piece.now)) }
 {
     let end = words.len();
-    let nothing = Answer::Accepted {
+    let nothing = Ok(Accepted {
         used: 0,
         written: 0,
-    };
+    });
     let begun = study.world;
     let mut made = Recorded {
         answer: nothing,
@@ -160,7 +159,7 @@ fn advance_on(
     requires { (length piece.old ≡ 16384) × (length log.old ≡ 2048) × (length out.old ≡ 65536) }
     ensures { Gives result piece.old out.old piece.new log.new out.new (advanced ended (playing study log.old (take held piece.old))) }
 {
-    let end = at_most(held, piece.len());
+    let end = held.min(piece.len());
     let first: usize = 0;
     let played = play_bytes(study, &piece[first..end], ended, log, out);
     let step = played.step;

@@ -4,12 +4,11 @@ use Rattle.world.specs.declared.World.{World}
 use Rattle.world.specs.declared.refusal.Refusal.TheVariants.{CutShort}
 use Rattle.log_writes.specs.Log.{Wrote}
 use Rattle.record.specs.Record.{is_accepted, used_of}
-use Rattle.record.specs.declared.Answer.{Answer}
-use Rattle.record.specs.declared.Answer.TheVariants.{Accepted, Refused}
+use Rattle.record.specs.Record.{Answer}
+use Rattle.std.specs.Prelude.{Ok, Err}
 use Rattle.report.specs.Report.{count_more, counted_report}
 use Rattle.report.specs.declared.Counts.{Counts}
-use Rattle.report.specs.declared.Reported.{Reported}
-use Rattle.report.specs.declared.Reported.TheVariants as Reported
+use Rattle.report.specs.Report.{Reported}
 use Rattle.study_numbers.specs.NumberText.{word_lines}
 use Rattle.study_text.specs.Text.{report_line, refused_line}
 use Rattle.play.specs.declared.Told.{Told}
@@ -18,13 +17,13 @@ use Rattle.play.specs.declared.Told.{Told}
 
 -- "prints each log word ..; at a refusal it prints `refused N`": the words are as many from the log's start as the answer says were written
 abbrev pub told : Answer → List ℕ → List ℕ
-told (Accepted used written) log = word_lines (take written log)
-told (Refused r) log = refused_line r
+told (Ok a) log = word_lines (take written log)
+told (Err r) log = refused_line r
 
 -- "That line counts the words of all its ticks."
 abbrev pub counts_after : Answer → List ℕ → Counts → Counts
-counts_after (Accepted used written) log c = count_more c (take written log)
-counts_after (Refused r) log c = c
+counts_after (Ok a) log c = count_more c (take written log)
+counts_after (Err r) log c = c
 
 -- what the code tells of an answer and the log after it: the text goes into `out` from `at` on, and `out'` is the buffer then
 pub record Tells (a : Answer) (log : List ℕ) (c : Counts) (out : List ℕ) (at : ℕ) (t : Told) (out' : List ℕ) : Type 0 where
@@ -37,8 +36,8 @@ pub record Tells (a : Answer) (log : List ℕ) (c : Counts) (out : List ℕ) (at
 
 -- "then the report line"
 abbrev pub last_line : Reported → List ℕ
-last_line (Reported.Counted t) = report_line t
-last_line (Reported.Refused r) = refused_line r
+last_line (Ok t) = report_line t
+last_line (Err r) = refused_line r
 
 -- "Input that ends between records ends the tape; one to three bytes left over are refused 1."
 unfoldable pub ending : World → Counts → ℕ → List ℕ

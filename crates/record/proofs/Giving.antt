@@ -13,26 +13,24 @@ use Rattle.tape_records.specs.declared.Read.TheVariants as Read
 use Rattle.tape_records.specs.declared.Decoded.{Decoded}
 use Rattle.tape_records.specs.declared.Record.{Record}
 use Rattle.changes.specs.declared.Changed.{Changed}
-use Rattle.changes.specs.declared.Taken.{Taken}
-use Rattle.changes.specs.declared.Taken.TheVariants as Taken
+use Rattle.std.specs.Prelude.{Ok, Err}
 use Rattle.record_kinds.specs.Kinds.{change_by, tick_taken}
 use Rattle.log_writes.specs.Log.{Wrote}
 use Rattle.tick.specs.Tick.{tick_world, tick_words}
 use Rattle.tick.specs.Room.{room_of, WordsFit}
 use Rattle.tick.proofs.Proved.{words_fit}
 use Rattle.record.specs.declared.Recorded.{Recorded}
-use Rattle.record.specs.declared.Answer.TheVariants.{Accepted, Refused}
 use Rattle.record.specs.Record.{Outcome, Gives, refused, answer_of, checks_of_tick, ticked, tick_once, read_by, record_of}
 
 -- a refusal: the answer, and the world as it was
 abbrev pub Says : Recorded → World → Refusal → Type 0
-Says r w f = (r.answer ≡ Refused f) × (r.world ≡ w)
+Says r w f = (r.answer ≡ Err f) × (r.world ≡ w)
 
 refusal_gives : {r : Recorded} {w : World} {log : List ℕ} {f : Refusal} → Says r w f → Gives r log (refused w log f)
 refusal_gives h = record { answer = h.0; world = h.1; log = refl }
 
 -- what is refused is not taken
-not_both : (r : Refusal) → Taken.Refused r ≡ Taken.Accepted → ⊥
+not_both : (r : Refusal) → Err r ≡ (Ok tt) → ⊥
 not_both r q = let z : ◌≡◌ {A = ℕ} 0 1 = cc in omega arith
 
 module _ (w : World) (log : List ℕ) where
@@ -42,15 +40,15 @@ module _ (w : World) (log : List ℕ) where
   tick_says = tick_taken w.started w.ticks w.car_count w.stop_count (length log)
 
   abbrev said_of : Outcome → Taken → Outcome
-  said_of o Taken.Accepted = o
-  said_of o (Taken.Refused f) = refused w log f
+  said_of o (Ok tt) = o
+  said_of o (Err f) = refused w log f
 
-  said : (o : Outcome) (cs : List Check) (t : Taken) → unless cs Taken.Refused Taken.Accepted ≡ t → unless cs (refused w log) o ≡ said_of o t
+  said : (o : Outcome) (cs : List Check) (t : Taken) → unless cs Err (Ok tt) ≡ t → unless cs (refused w log) o ≡ said_of o t
   said o [] t e = rw (← e)
   said o (c ∷ cs) t e = by c.holds (λ h. said o cs t h) e
     where
-      by : (b : Bool) → (unless cs Taken.Refused Taken.Accepted ≡ t → unless cs (refused w log) o ≡ said_of o t)
-          → cond b (Taken.Refused c.refusal) (unless cs Taken.Refused Taken.Accepted) ≡ t → cond b (refused w log c.refusal) (unless cs (refused w log) o) ≡ said_of o t
+      by : (b : Bool) → (unless cs Err (Ok tt) ≡ t → unless cs (refused w log) o ≡ said_of o t)
+          → cond b (Err c.refusal) (unless cs Err (Ok tt)) ≡ t → cond b (refused w log c.refusal) (unless cs (refused w log) o) ≡ said_of o t
       by true k h = rw (← h)
       by false k h = k h
 
@@ -59,7 +57,7 @@ module _ (w : World) (log : List ℕ) where
   tick_said used dt t e = said (ticked w log used dt) (checks_of_tick w log) t e
 
   -- a tick that is taken has room
-  has_room_lem : tick_says ≡ Taken.Accepted → room_of w ≤ length log
+  has_room_lem : tick_says ≡ (Ok tt) → room_of w ≤ length log
   unfolding tick_taken room_of
   has_room_lem e = ltb-false (length log) (room_of w) (unless_passed (checks_of_tick w log) not_both e).0.1.1.0
 
@@ -72,18 +70,18 @@ module _ (w : World) (log : List ℕ) where
       → (r.answer ≡ answer_of c.taken used) × (r.world ≡ c.world) → Gives r log (read_by w log serves read)
   is_changed serves d e h = rw (d, ← e) (record { answer = h.0; world = h.1; log = refl })
 
-  pub tick_refused : {r : Recorded} (serves : List ℕ) {read : Read} {used : ℕ} {dt : Float} {f : Refusal} → read ≡ Read.Tick dt used → tick_says ≡ Taken.Refused f
+  pub tick_refused : {r : Recorded} (serves : List ℕ) {read : Read} {used : ℕ} {dt : Float} {f : Refusal} → read ≡ Read.Tick dt used → tick_says ≡ Err f
       → Says r w f → Gives r log (read_by w log serves read)
-  tick_refused serves {used = used} {dt = dt} {f = f} d t h = rw (d, tick_said used dt (Taken.Refused f) t) (refusal_gives h)
+  tick_refused serves {used = used} {dt = dt} {f = f} d t h = rw (d, tick_said used dt (Err f) t) (refusal_gives h)
 
   pub tick_taken_lem : {r : Recorded} {left : List ℕ} {at : ℕ} (serves : List ℕ) {read : Read} {used : ℕ} {dt : Float} → read ≡ Read.Tick dt used
-      → tick_says ≡ Taken.Accepted → r.answer ≡ Accepted used at → r.world ≡ tick_world w dt → Wrote log 0 (tick_words w dt) left at
+      → tick_says ≡ (Ok tt) → r.answer ≡ Ok (record { used = used; written = at }) → r.world ≡ tick_world w dt → Wrote log 0 (tick_words w dt) left at
       → Gives r left (read_by w log serves read)
   unfolding WordsFit
   tick_taken_lem {at = at} serves {used = used} {dt = dt} d t n m h =
       let fits : length (tick_words w dt) ≤ room_of w = words_fit w dt in
       let all : at ≡ length (tick_words w dt) = omega (arith, h.next, fits, has_room_lem t) in
-      rw (d, tick_said used dt Taken.Accepted t) (record { answer = n ∙ ap (λ (x : ℕ). Accepted used x) all; world = m; log = h.list })
+      rw (d, tick_said used dt (Ok tt) t) (record { answer = n ∙ ap (λ (x : ℕ). Ok (record { used = used; written = x })) all; world = m; log = h.list })
 
   -- ---- the record call
 

@@ -1,5 +1,5 @@
 -- The record call: one record of a tape, from the world, the words and the log to the answer, the next world and the log.
-use Rattle.std.specs.Prelude.{◌≡◌, ℕ, Bool, true, false, List, [], ◌∷◌, length, Float}
+use Rattle.std.specs.Prelude.{Result, Ok, Err, ◌≡◌, ℕ, Bool, true, false, List, [], ◌∷◌, length, Float}
 use Rattle.std.proofs.lemmas.List.Edits.{sets}
 use Rattle.sound.specs.Sound.{broken}
 use Rattle.world.specs.Refusal.{Check, check, unless}
@@ -10,29 +10,30 @@ use Rattle.tape.specs.Tape.{decoded}
 use Rattle.tape_records.specs.declared.Read.{Read}
 use Rattle.tape_records.specs.declared.Read.TheVariants as Read
 use Rattle.changes.specs.declared.Changed.{Changed}
-use Rattle.changes.specs.declared.Taken.{Taken}
-use Rattle.changes.specs.declared.Taken.TheVariants as Taken
 use Rattle.record_kinds.specs.Kinds.{change_by, tick_checks}
 use Rattle.tick.specs.Tick.{tick_world, tick_words}
 use Rattle.record.specs.declared.Recorded.{Recorded}
-use Rattle.record.specs.declared.Answer.{Answer}
-use Rattle.record.specs.declared.Answer.TheVariants.{Accepted, Refused}
+use Rattle.record.specs.declared.Accepted.{Accepted}
+use Rattle.tape_records.specs.declared.Decoded.{Decoded}
 
 -- ---- the answer: the certificate's "an accepted record or one numbered refusal"; refusal_number of `world` gives the numbers
 
+abbrev pub Answer : Type 0
+Answer = Result Accepted Refusal
+
 abbrev pub is_accepted : Answer → Bool
-is_accepted (Accepted used written) = true
-is_accepted (Refused r) = false
+is_accepted (Ok a) = true
+is_accepted (Err r) = false
 
 -- "the answer says how many were used"; a refusal "answers the number and 0 words"
 abbrev pub used_of : Answer → ℕ
-used_of (Accepted used written) = used
-used_of (Refused r) = 0
+used_of (Ok a) = a.used
+used_of (Err r) = 0
 
 -- "and how many log words were written"
 abbrev pub written_of : Answer → ℕ
-written_of (Accepted used written) = written
-written_of (Refused r) = 0
+written_of (Ok a) = a.written
+written_of (Err r) = 0
 
 -- ---- what a call gives
 
@@ -42,11 +43,11 @@ pub record Outcome : Type 0 where
   pub log : List ℕ
 
 abbrev pub accepted : ℕ → ℕ → World → List ℕ → Outcome
-accepted used written w log = record { answer = Accepted used written; world = w; log = log }
+accepted used written w log = record { answer = Ok (record { used = used; written = written }); world = w; log = log }
 
 -- "world and log unchanged"
 abbrev pub refused : World → List ℕ → Refusal → Outcome
-refused w log r = record { answer = Refused r; world = w; log = log }
+refused w log r = record { answer = Err r; world = w; log = log }
 
 -- a call made by code: its answer and world, and the log that it left
 pub record Gives (r : Recorded) (left : List ℕ) (o : Outcome) : Type 0 where
@@ -56,9 +57,9 @@ pub record Gives (r : Recorded) (left : List ℕ) (o : Outcome) : Type 0 where
 
 -- ---- every record but the tick: no word is written, the log is as it was
 
-abbrev pub answer_of : Taken → ℕ → Answer
-answer_of Taken.Accepted used = Accepted used 0
-answer_of (Taken.Refused r) used = Refused r
+abbrev pub answer_of : Result (Unit {0}) Refusal → ℕ → Answer
+answer_of (Ok t) used = Ok (record { used = used; written = 0 })
+answer_of (Err r) used = Err r
 
 abbrev pub changed : List ℕ → ℕ → Changed → Outcome
 changed log used c = record { answer = answer_of c.taken used; world = c.world; log = log }
@@ -77,12 +78,16 @@ tick_once w log used dt = unless (checks_of_tick w log) (refused w log) (ticked 
 
 -- ---- the record call
 
+-- the record
+abbrev pub made_of : World → List ℕ → List ℕ → Read → Outcome
+made_of w log serves (Read.Accepted read used) = changed log used (change_by w serves read)
+made_of w log serves (Read.Tick dt used) = tick_once w log used dt
+
 -- refusals 1 to 4, or the record
-abbrev pub read_by : World → List ℕ → List ℕ → Read → Outcome
-read_by w log serves (Read.Refused r) = refused w log r
-read_by w log serves (Read.Accepted read used) = changed log used (change_by w serves read)
-read_by w log serves (Read.Tick dt used) = tick_once w log used dt
+abbrev pub read_by : World → List ℕ → Result Decoded Refusal → Outcome
+read_by w log (Err r) = refused w log r
+read_by w log (Ok d) = made_of w log d.serves d.read
 
 -- "Checked in the order of the numbers": 0, then what the tape says, then what the state says
 unfoldable pub record_of : World → List ℕ → List ℕ → Outcome
-record_of w words log = unless (check BrokenWorld (broken w) ∷ []) (refused w log) (read_by w log (decoded words).serves (decoded words).read)
+record_of w words log = unless (check BrokenWorld (broken w) ∷ []) (refused w log) (read_by w log (decoded words))

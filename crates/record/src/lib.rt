@@ -1,17 +1,15 @@
 // The record call: one record of a tape, checked in the paper's order and done. What knows no loop is in record_kinds.
 #![tactic(auto)]
 
-ghost use Rattle.std.specs.Prelude.{◌≡◌};
+ghost use Rattle.std.specs.Prelude.{◌≡◌, Err};
 ghost use Rattle.record.specs.Record as Call;
 
 use arrival::{asks_work, work_of};
-use changes::{Changed, Taken};
+use changes::Changed;
 use door_commands::has_rider_traversing;
 use doors_system::{door_turn, has_turn};
 use hall_calls::clear_hall_calls;
 use landing::{landing, leader_of};
-use laws::at_most;
-use leader::LeaderOption;
 use log_words::Event;
 use log_writes::emit;
 use movement_system::turn::tell;
@@ -21,19 +19,22 @@ use sorted::sorted_stops;
 use sound::rest_broken;
 use sound_rows::car_broken;
 use std::num::wrapping_add_u64;
-use steps::{lamps_of, line_at, not_opened};
+use steps::{lamps_of, line_at};
 use tape::decode;
 use tape_records::Read;
 use trips::{is_loop, is_trip, trip_of};
 use world::refusal::Refusal;
 use world::{LineKind, World};
 
-// An accepted record with the words used and the log words written, or one refusal.
+// An accepted record: the words used and the log words written.
 #[derive(Clone, Copy)]
-pub enum Answer {
-    Accepted { used: usize, written: usize },
-    Refused(Refusal),
+pub struct Accepted {
+    pub used: usize,
+    pub written: usize,
 }
+
+// The answer: an accepted record, or one refusal.
+pub type Answer = Result<Accepted, Refusal>;
 
 // The answer, and the world after the call: on a refusal the one that was given.
 #[derive(Clone, Copy)]
@@ -43,10 +44,10 @@ pub struct Recorded {
 }
 
 fn refused(world: World, refusal: Refusal) -> Recorded
-    ensures { (result.answer ≡ Answer.Refused refusal) × (result.world ≡ world) }
+    ensures { (result.answer ≡ Err refusal) × (result.world ≡ world) }
 {
     Recorded {
-        answer: Answer::Refused(refusal),
+        answer: Err(refusal),
         world,
     }
 }
@@ -56,13 +57,9 @@ fn answered(changed: Changed, used: usize) -> Recorded
     ensures { (result.answer ≡ Call.answer_of changed.taken used) × (result.world ≡ changed.world) }
 {
     let world = changed.world;
-    let taken = changed.taken;
-    match taken {
-        Taken::Refused(refusal) => refused(world, refusal),
-        Taken::Accepted => Recorded {
-            answer: Answer::Accepted { used, written: 0 },
-            world,
-        },
+    Recorded {
+        answer: changed.taken.map(|()| Accepted { used, written: 0 }),
+        world,
     }
 }
 
@@ -80,7 +77,7 @@ pub fn record(world: World, words: &[u32], log: &mut [u32]) -> Recorded
 {
     // 1. refusal 0: the cars one by one, and the rest
     let mut w = world;
-    let cars = at_most(w.car_count, 16);
+    let cars = w.car_count.min(16);
     let mut broken = rest_broken(w);
     let mut i: usize = 0;
     while i < cars {
@@ -92,16 +89,16 @@ pub fn record(world: World, words: &[u32], log: &mut [u32]) -> Recorded
         return refused(w, Refusal::BrokenWorld);
     }
     // 2. refusals 1 to 12, and every record but the tick
-    let decoded = decode(words);
-    let serves = decoded.serves;
-    let read = decoded.read;
-    let tick = match read {
-        Read::Refused(refusal) => return refused(w, refusal),
-        Read::Accepted(found, used) => return answered(change(w, found, serves), used),
+    let decoded = match decode(words) {
+        Ok(decoded) => decoded,
+        Err(refusal) => return refused(w, refusal),
+    };
+    let tick = match decoded.read {
+        Read::Accepted(found, used) => return answered(change(w, found, decoded.serves), used),
         Read::Tick { dt, used } => Tick { dt, used },
     };
     let taken = take_tick(w.started, w.ticks, w.car_count, w.stop_count, log.len());
-    if let Taken::Refused(refusal) = taken {
+    if let Err(refusal) = taken {
         return refused(w, refusal);
     }
     // 3. the tick's word; movement.rs, run: car by car, each on positions already updated in this tick. A car at rest is left alone.
@@ -120,7 +117,7 @@ pub fn record(world: World, words: &[u32], log: &mut [u32]) -> Recorded
                 let l = w.lines[line];
                 kind = l.kind;
             }
-            let mut leader = LeaderOption::NoLeader;
+            let mut leader = None;
             if is_loop(kind) {
                 let all = w.cars;
                 leader = leader_of(kind, all, w.car_count, i, car);
@@ -151,7 +148,7 @@ pub fn record(world: World, words: &[u32], log: &mut [u32]) -> Recorded
         i += 1;
     }
     // 4. doors.rs, run: commands, then the door's tick, car by car; then the hall calls clear
-    let mut just_opened = [not_opened(); 16];
+    let mut just_opened = [None; 16];
     i = 0;
     while i < cars {
         let car = w.cars[i];
@@ -179,10 +176,10 @@ pub fn record(world: World, words: &[u32], log: &mut [u32]) -> Recorded
     w.down_calls = calls.down;
     w.ticks = wrapping_add_u64(w.ticks, 1);
     Recorded {
-        answer: Answer::Accepted {
+        answer: Ok(Accepted {
             used: tick.used,
             written: calls.at,
-        },
+        }),
         world: w,
     }
 }

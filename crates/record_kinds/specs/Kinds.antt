@@ -1,5 +1,5 @@
 -- What each record but the tick does, and what the state says of a tick.
-use Rattle.std.specs.Prelude.{Bool, not, List, [], ◌∷◌, ℕ, ◌^◌, leb, ltb}
+use Rattle.std.specs.Prelude.{Result, Ok, Err, Bool, not, List, [], ◌∷◌, ℕ, ◌^◌, leb, ltb}
 use Rattle.world.specs.Refusal.{Check, check, unless}
 use Rattle.world.specs.declared.World.{World}
 use Rattle.world.specs.declared.refusal.Refusal.TheVariants.{NotNow, LastTick, LogShort}
@@ -8,8 +8,7 @@ use Rattle.tape_records.specs.declared.Record.TheVariants.{Line, Stop, Car, Ride
 use Rattle.loads.specs.Loads.{load_line, load_stop, load_car, load_rider}
 use Rattle.changes.specs.Changes.{start}
 use Rattle.changes.specs.declared.Changed.{Changed}
-use Rattle.changes.specs.declared.Taken.{Taken}
-use Rattle.changes.specs.declared.Taken.TheVariants.{Accepted, Refused}
+use Rattle.world.specs.declared.refusal.Refusal.{Refusal}
 use Rattle.orders.specs.Orders.{send}
 use Rattle.modes.specs.Modes.{set_mode, set_manual_speed, set_enabled}
 use Rattle.requests.specs.Requests.{queue_command, press_hall_call, push_destination}
@@ -42,5 +41,5 @@ tick_checks started ticks cars stops room =
     ∷ []
 
 -- the first of them that holds, or the tick is taken
-unfoldable pub tick_taken : Bool → ℕ → ℕ → ℕ → ℕ → Taken
-tick_taken started ticks cars stops room = unless (tick_checks started ticks cars stops room) Refused Accepted
+unfoldable pub tick_taken : Bool → ℕ → ℕ → ℕ → ℕ → Result (Unit {0}) Refusal
+tick_taken started ticks cars stops room = unless (tick_checks started ticks cars stops room) Err (Ok tt)

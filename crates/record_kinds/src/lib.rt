@@ -5,8 +5,7 @@ ghost use Rattle.std.specs.Prelude.{◌≡◌, true};
 ghost use Rattle.record_kinds.specs.Kinds as Kinds;
 ghost use Rattle.record_kinds.specs.PaperRoom.{PaperRoom};
 
-use changes::{Changed, Taken};
-use laws::at_most;
+use changes::Changed;
 use tape_records::Record;
 use world::World;
 use world::refusal::Refusal;
@@ -41,19 +40,25 @@ pub fn change(world: World, read: Record, serves: [u8; 64]) -> Changed
 }
 
 // Kind C, of a world with so many cars and stops and a log of `room` words: 6, 11 and 12, or the tick is taken.
-pub fn take_tick(started: bool, ticks: u64, cars: usize, stops: usize, room: usize) -> Taken
+pub fn take_tick(
+    started: bool,
+    ticks: u64,
+    cars: usize,
+    stops: usize,
+    room: usize,
+) -> Result<(), Refusal>
     ensures { result ≡ Kinds.tick_taken started ticks cars stops room }
 {
     if !started {
-        return Taken::Refused(Refusal::NotNow);
+        return Err(Refusal::NotNow);
     }
     if 0x1000_0000 <= ticks {
-        return Taken::Refused(Refusal::LastTick);
+        return Err(Refusal::LastTick);
     }
-    if room < at_most(cars, 16) * (at_most(stops, 64) + 14) + 1 {
-        return Taken::Refused(Refusal::LogShort);
+    if room < cars.min(16) * (stops.min(64) + 14) + 1 {
+        return Err(Refusal::LogShort);
     }
-    Taken::Accepted
+    Ok(())
 }
 
 // Carries the claim that the room which a tick asks for is the paper's number.

@@ -5,7 +5,7 @@ ghost use Rattle.std.specs.Prelude.{◌≡◌};
 ghost use Rattle.requests.specs.Requests as Requests;
 
 use call_sets::pressed;
-use changes::{Changed, Hindered, accepted, ordered, refused, row_of};
+use changes::{Changed, accepted, ordered, refused, row_of};
 use door::DoorCommand;
 use sound_rows::unloaded;
 use world::refusal::Refusal;
@@ -18,12 +18,12 @@ pub fn queue_command(world: World, car: u8, command: DoorCommand) -> Changed
     let mut row = row_of(world, car);
     let commands = row.command_count;
     if 8 <= commands {
-        return ordered(world, car, false, Hindered::By(Refusal::QueueFull), row);
+        return ordered(world, car, false, Some(Refusal::QueueFull), row);
     }
     let queued = QueuedCommand { command };
     row.door_command_queue[commands] = queued;
     row.command_count = commands + 1;
-    ordered(world, car, false, Hindered::No, row)
+    ordered(world, car, false, None, row)
 }
 
 // Kind 9.
@@ -53,9 +53,9 @@ pub fn push_destination(world: World, car: u8, stop: u8) -> Changed
     let unnamed = unloaded(world.stop_count, stop);
     let destinations = row.destination_count;
     if 8 <= destinations {
-        return ordered(world, car, unnamed, Hindered::By(Refusal::QueueFull), row);
+        return ordered(world, car, unnamed, Some(Refusal::QueueFull), row);
     }
     row.destination_queue[destinations] = stop;
     row.destination_count = destinations + 1;
-    ordered(world, car, unnamed, Hindered::No, row)
+    ordered(world, car, unnamed, None, row)
 }

@@ -4,7 +4,6 @@
 ghost use Rattle.std.specs.Prelude.{◌≡◌, true, not, ◌+◌, ◌<◌, min};
 ghost use Rattle.sorted.specs.Sorted.{position_before, stop_before, sorted_table, StopsSorted};
 
-use laws::at_most;
 use lookup::stops::stop_position;
 
 // Whether a position comes before another: 0 and -0 alike, one that is not a number last.
@@ -55,7 +54,7 @@ fn insert(order: &mut [u8; 64], stops: &[f64; 64], i: usize)
 pub fn sorted_stops(stops: &[f64; 64], stop_count: usize) -> [u8; 64]
     ensures { result ≡ sorted_table stops.now (min stop_count 64) }
 {
-    let n = at_most(stop_count, 64);
+    let n = stop_count.min(64);
     let mut order = [0u8; 64];
     let mut i: usize = 0;
     while i < n {

@@ -7,10 +7,8 @@ use Rattle.world.specs.declared.ElevatorPhase.{ElevatorPhase}
 use Rattle.world.specs.declared.ElevatorPhase.TheVariants.{Idle, MovingToStop, Repositioning, DoorOpening, Loading, DoorClosing, Stopped}
 use Rattle.world.specs.declared.RiderPhase.{RiderPhase}
 use Rattle.world.specs.declared.RiderPhase.TheVariants.{Waiting, Boarding, Riding, Exiting, Walking, Arrived, Abandoned, Resident}
-use Rattle.world.specs.declared.StopOption.{StopOption}
-use Rattle.world.specs.declared.StopOption.TheVariants.{NoStop, Stop}
-use Rattle.world.specs.declared.CarOption.{CarOption}
-use Rattle.world.specs.declared.CarOption.TheVariants.{NoCar, OfCar}
+use Rattle.std.specs.declared.option.Option.{Option}
+use Rattle.std.specs.declared.option.Option.TheVariants.{None, Some}
 
 -- whether one of the numbers below n passes the test
 unfoldable pub any_to : (ℕ → Bool) → ℕ → Bool
@@ -22,13 +20,13 @@ any_to f (suc n) = any_to f n || f n
 abbrev pub unloaded : ℕ → ℕ → Bool
 unloaded loaded number = leb loaded number
 
-abbrev pub stop_unloaded : ℕ → StopOption → Bool
-stop_unloaded stops NoStop = false
-stop_unloaded stops (Stop s) = unloaded stops s
+abbrev pub stop_unloaded : ℕ → Option ℕ → Bool
+stop_unloaded stops None = false
+stop_unloaded stops (Some s) = unloaded stops s
 
-abbrev pub car_unloaded : ℕ → CarOption → Bool
-car_unloaded cars NoCar = false
-car_unloaded cars (OfCar i) = unloaded cars i
+abbrev pub car_unloaded : ℕ → Option ℕ → Bool
+car_unloaded cars None = false
+car_unloaded cars (Some i) = unloaded cars i
 
 abbrev pub phase_unloaded : ℕ → ElevatorPhase → Bool
 phase_unloaded stops Idle = false

@@ -6,7 +6,7 @@ ghost use Rattle.std.specs.Prelude.{◌≡◌, ℕ, ◌≤◌, ◌^◌, leb, len
 ghost use Rattle.sound_rows.specs.Rows as Rows;
 ghost use Rattle.sound_rows.specs.Rows.{any_to};
 
-use world::{Car, CarOption, ElevatorPhase, Line, Rider, RiderPhase, StopOption};
+use world::{Car, ElevatorPhase, Line, Rider, RiderPhase};
 
 // Whether a number is not loaded: not below the count of its table.
 pub fn unloaded(loaded: usize, number: u8) -> bool
@@ -15,21 +15,21 @@ pub fn unloaded(loaded: usize, number: u8) -> bool
     loaded <= number as usize
 }
 
-fn stop_unloaded(stops: usize, stop: StopOption) -> bool
+fn stop_unloaded(stops: usize, stop: Option<u8>) -> bool
     ensures { result ≡ Rows.stop_unloaded stops stop }
 {
     match stop {
-        StopOption::NoStop => false,
-        StopOption::Stop(s) => stops <= s as usize,
+        None => false,
+        Some(s) => stops <= s as usize,
     }
 }
 
-fn car_unloaded(cars: usize, car: CarOption) -> bool
+fn car_unloaded(cars: usize, car: Option<u8>) -> bool
     ensures { result ≡ Rows.car_unloaded cars car }
 {
     match car {
-        CarOption::NoCar => false,
-        CarOption::OfCar(i) => cars <= i as usize,
+        None => false,
+        Some(i) => cars <= i as usize,
     }
 }
 

@@ -8,7 +8,8 @@ use Rattle.world.specs.declared.Line.{Line}
 use Rattle.world.specs.declared.LineKind.TheVariants.{Linear}
 use Rattle.world.specs.declared.ServiceMode.{ServiceMode}
 use Rattle.world.specs.declared.ServiceMode.TheVariants.{Normal, Independent, Inspection, Manual, OutOfService}
-use Rattle.world.specs.declared.StopOption.TheVariants.{NoStop}
+use Rattle.std.specs.declared.option.Option.{Option}
+use Rattle.std.specs.declared.option.Option.TheVariants.{None}
 use Rattle.log_words.specs.Words.{word_of}
 use Rattle.log_words.specs.declared.Event.TheVariants.{DirectionIndicatorChanged}
 use Rattle.world.specs.declared.Lamps.{Lamps}
@@ -61,18 +62,18 @@ with_moved c position velocity moves = placed c position velocity (plus c.move_c
 
 -- ---- a car's turn: the car, its words, the world's totals then, and whether its door has just opened
 
-abbrev pub not_opened : JustOpened
-not_opened = record { stop = NoStop; going_up = false; going_down = false }
+abbrev pub not_opened : Option JustOpened
+not_opened = None
 
 pub record Step : Type 0 where
   pub car : Car
   pub words : List ℕ
   pub total : ℕ
   pub distance : Float
-  pub opened : JustOpened
+  pub opened : Option JustOpened
 
 -- a turn that leaves the totals: the car, its words, a door just opened
-abbrev pub step_of : World → Car → List ℕ → JustOpened → Step
+abbrev pub step_of : World → Car → List ℕ → Option JustOpened → Step
 step_of w c words opened = record { car = c; words = words; total = w.total_moves; distance = w.reposition_distance; opened = opened }
 
 -- the world after a car's turn
@@ -85,7 +86,7 @@ stepped w i s = with_turn w i s.car s.total s.distance
 pub record Run : Type 0 where
   pub world : World
   pub words : List ℕ
-  pub opened : List JustOpened
+  pub opened : List (Option JustOpened)
 
 abbrev pub ran : Run → ℕ → Step → Run
 ran r i s = record { world = stepped r.world i s; words = r.words ++ s.words; opened = set r.opened i s.opened }

@@ -2,7 +2,6 @@
 // and the text written out, in rounds. Of the input only what no record has used yet is kept, so that a tape may have any length.
 #![tactic(auto)]
 
-use laws::at_most;
 use pieces::{Study, advance, begin};
 use std::fmt;
 use std::io::{Read, Write};
@@ -29,7 +28,7 @@ impl fmt::Display for Failure {
 
 // Writes the buffer's first bytes.
 fn flush<W: Write>(output: &mut W, out: &[u8], at: usize) -> Result<(), Failure> {
-    match output.write_all(&out[..at_most(at, out.len())]) {
+    match output.write_all(&out[..at.min(out.len())]) {
         Ok(()) => Ok(()),
         Err(_) => Err(Failure::Output),
     }
@@ -48,7 +47,7 @@ fn with_read<R: Read>(
     piece: &mut [u8; 16384],
     held: usize,
 ) -> Result<Input, Failure> {
-    let from = at_most(held, piece.len());
+    let from = held.min(piece.len());
     match source.read(&mut piece[from..]) {
         Ok(count) => Ok(Input {
             held: from + count,

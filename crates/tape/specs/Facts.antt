@@ -1,8 +1,10 @@
 -- Claims about the definitions. The function `facts` carries them.
-use Rattle.std.specs.Prelude.{◌≡◌, List, ℕ, ◌<◌, ◌≤◌, length, get_or}
+use Rattle.std.specs.Prelude.{Result, Ok, Err, ◌≡◌, List, ℕ, ◌<◌, ◌≤◌, length, get_or}
 use Rattle.world.specs.Refusal.{refusal_number}
+use Rattle.world.specs.declared.refusal.Refusal.{Refusal}
+use Rattle.tape_records.specs.declared.Decoded.{Decoded}
 use Rattle.tape_records.specs.declared.Read.{Read}
-use Rattle.tape_records.specs.declared.Read.TheVariants.{Refused, Accepted, Tick}
+use Rattle.tape_records.specs.declared.Read.TheVariants.{Accepted, Tick}
 use Rattle.tape_records.specs.declared.Record.{Record}
 use Rattle.tape_records.specs.declared.Record.TheVariants.{Line, Stop, Car, Rider, Send, Mode, ManualSpeed, DoorCommand, HallCall, Destination, Enable, Start}
 use Rattle.tape.specs.Tape.{decoded}
@@ -23,11 +25,15 @@ kind_number (Destination car stop) = 10
 kind_number (Enable car enabled) = 11
 kind_number Start = 13
 
--- a refusal is 1 to 4; a record takes some words and no more than there are, and its kind is its head's
-abbrev pub InBounds : List ℕ → Read → Type 0
-InBounds ws (Refused r) = (1 ≤ refusal_number r) × (refusal_number r ≤ 4)
-InBounds ws (Accepted r used) = (0 < used) × (used ≤ length ws) × (kind_of (get_or ws 0 0) ≡ kind_number r)
-InBounds ws (Tick dt used) = (0 < used) × (used ≤ length ws) × (kind_of (get_or ws 0 0) ≡ 12)
+-- a record takes some words and no more than there are, and its kind is its head's
+abbrev pub ReadInBounds : List ℕ → Read → Type 0
+ReadInBounds ws (Accepted r used) = (0 < used) × (used ≤ length ws) × (kind_of (get_or ws 0 0) ≡ kind_number r)
+ReadInBounds ws (Tick dt used) = (0 < used) × (used ≤ length ws) × (kind_of (get_or ws 0 0) ≡ 12)
+
+-- a refusal is 1 to 4
+abbrev pub InBounds : List ℕ → Result Decoded Refusal → Type 0
+InBounds ws (Err r) = (1 ≤ refusal_number r) × (refusal_number r ≤ 4)
+InBounds ws (Ok d) = ReadInBounds ws d.read
 
 unfoldable pub Facts : Type 0
-Facts = (ws : List ℕ) → InBounds ws (decoded ws).read
+Facts = (ws : List ℕ) → InBounds ws (decoded ws)

@@ -1,12 +1,13 @@
 -- What a tape (the input record stream) begins with: the record of its kind, or the first refusal whose condition holds.
-use Rattle.std.specs.Prelude.{Bool, cond, List, [], ◌∷◌, ℕ, eqb, length, get_or}
+use Rattle.std.specs.Prelude.{Result, Err, Bool, cond, List, [], ◌∷◌, ℕ, eqb, length, get_or}
 use Rattle.world.specs.Refusal.{check, unless}
+use Rattle.world.specs.declared.refusal.Refusal.{Refusal}
 use Rattle.world.specs.declared.refusal.Refusal.TheVariants.{CutShort, UnknownKind}
 use Rattle.layout.specs.Layout.{kind_of}
 use Rattle.fields.specs.declared.head.Head.{Head}
 use Rattle.fields.specs.Fields.{head_of}
 use Rattle.tape_records.specs.declared.Decoded.{Decoded}
-use Rattle.tape_records.specs.Answers.{refused, Deed, answer}
+use Rattle.tape_records.specs.Answers.{Deed, answer}
 use Rattle.tape_loads.specs.LoadRecords.{line_record, stop_record, car_record, rider_record}
 use Rattle.tape_orders.specs.OrderRecords.{send_record, mode_record, manual_speed_record, door_command_record, hall_call_record, destination_record, enable_record, tick_record, start_record}
 
@@ -19,8 +20,8 @@ pub record Kind : Type 0 where
 abbrev pub kind : ℕ → Deed → Kind
 kind k d = record { number = k; deed = d }
 
-abbrev pub kind_in : ℕ → List Kind → Decoded
-kind_in k [] = refused UnknownKind
+abbrev pub kind_in : ℕ → List Kind → Result Decoded Refusal
+kind_in k [] = Err UnknownKind
 kind_in k (t ∷ ts) = cond (eqb k t.number) (answer t.deed) (kind_in k ts)
 
 abbrev pub kinds : Head → List ℕ → List Kind
@@ -41,8 +42,8 @@ kinds h ws =
     ∷ []
 
 -- the record of a head and words, and the record that words begin with
-unfoldable pub record_of : Head → List ℕ → Decoded
+unfoldable pub record_of : Head → List ℕ → Result Decoded Refusal
 record_of h ws = kind_in h.kind (kinds h ws)
 
-unfoldable pub decoded : List ℕ → Decoded
-decoded ws = unless (check CutShort (eqb (length ws) 0) ∷ []) refused (record_of (head_of (get_or ws 0 0)) ws)
+unfoldable pub decoded : List ℕ → Result Decoded Refusal
+decoded ws = unless (check CutShort (eqb (length ws) 0) ∷ []) Err (record_of (head_of (get_or ws 0 0)) ws)

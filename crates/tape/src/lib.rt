@@ -7,15 +7,15 @@ ghost use Rattle.std.specs.Prelude.{◌≡◌};
 ghost use Rattle.tape.specs.Tape.{decoded};
 
 use fields::head::head_of;
-use tape_records::{Decoded, refused};
+use tape_records::Decoded;
 use world::refusal::Refusal;
 
 // The record that the words begin with.
-pub fn decode(words: &[u32]) -> Decoded
+pub fn decode(words: &[u32]) -> Result<Decoded, Refusal>
     ensures { result ≡ decoded words.now }
 {
     if words.len() == 0 {
-        return refused(Refusal::CutShort);
+        return Err(Refusal::CutShort);
     }
     let head = head_of(words[0]);
     let kind = head.kind;
@@ -33,6 +33,6 @@ pub fn decode(words: &[u32]) -> Decoded
         11 => tape_orders::decode_enable(head),
         12 => tape_orders::decode_tick(head, words),
         13 => tape_orders::decode_start(head),
-        _ => refused(Refusal::UnknownKind),
+        _ => Err(Refusal::UnknownKind),
     }
 }

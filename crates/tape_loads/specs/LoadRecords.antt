@@ -5,10 +5,8 @@ use Rattle.world.specs.declared.refusal.Refusal.TheVariants.{CutShort, FieldOuts
 use Rattle.world.specs.declared.LineKind.{LineKind}
 use Rattle.world.specs.declared.LineKind.TheVariants.{Linear, Loop}
 use Rattle.world.specs.declared.Motion.{Motion}
-use Rattle.world.specs.declared.StopOption.{StopOption}
-use Rattle.world.specs.declared.StopOption.TheVariants as StopOption
-use Rattle.world.specs.declared.CarOption.{CarOption}
-use Rattle.world.specs.declared.CarOption.TheVariants.{NoCar, OfCar}
+use Rattle.std.specs.declared.option.Option.{Option}
+use Rattle.std.specs.declared.option.Option.TheVariants.{None, Some}
 use Rattle.world.specs.declared.RiderPhase.{RiderPhase}
 use Rattle.world.specs.declared.RiderPhase.TheVariants.{Waiting, Boarding, Riding, Exiting, Walking, Arrived, Abandoned, Resident}
 use Rattle.fields.specs.declared.head.Head.{Head}
@@ -123,11 +121,11 @@ rider_phase phase car =
     (cond (eqb phase 5) Arrived
     (cond (eqb phase 6) Abandoned Resident))))))
 
-abbrev pub car_option : ℕ → CarOption
-car_option car = cond (eqb car 255) NoCar (OfCar car)
+abbrev pub car_option : ℕ → Option ℕ
+car_option car = cond (eqb car 255) None (Some car)
 
-abbrev pub stop_option : ℕ → StopOption
-stop_option stop = cond (ltb stop 64) (StopOption.Stop stop) StopOption.NoStop
+abbrev pub stop_option : ℕ → Option ℕ
+stop_option stop = cond (ltb stop 64) (Some stop) None
 
 abbrev pub rider_record : Head → List ℕ → Deed
 rider_record h ws =

@@ -9,9 +9,9 @@ use fields::body::{
     float_at, outside_above_zero, outside_from_zero, outside_size, raw_zero_at, word_at,
 };
 use fields::head::Head;
-use tape_records::{Decoded, Read, Record, checked, refused};
+use tape_records::{Decoded, Read, Record, checked};
 use world::refusal::Refusal;
-use world::{CarOption, CarPlan, LineKind, Motion, Rider, RiderPhase, StopOption};
+use world::{CarPlan, LineKind, Motion, Rider, RiderPhase};
 
 // How many served stops follow: 65,535 stands for no list.
 fn serves_count(v: u32) -> usize
@@ -76,22 +76,22 @@ fn line_kind_of(head: Head, words: &[u32]) -> LineKind
     }
 }
 
-pub fn decode_line(head: Head, words: &[u32]) -> Decoded
+pub fn decode_line(head: Head, words: &[u32]) -> Result<Decoded, Refusal>
     ensures { result ≡ answer (line_record head words.now) }
 {
     if (head.v > 64) & (head.v != 65535) {
-        return refused(Refusal::FieldOutside);
+        return Err(Refusal::FieldOutside);
     }
     let count = serves_count(head.v);
     if words.len() < 5 + count {
-        return refused(Refusal::CutShort);
+        return Err(Refusal::CutShort);
     }
     let stop_outside = serves_outside(words, count);
     if line_fields_outside(head, words) | stop_outside {
-        return refused(Refusal::FieldOutside);
+        return Err(Refusal::FieldOutside);
     }
     if line_floats_outside(head, words) {
-        return refused(Refusal::FloatOutside);
+        return Err(Refusal::FloatOutside);
     }
     let kind = line_kind_of(head, words);
     let record = Record::Line {
@@ -102,10 +102,10 @@ pub fn decode_line(head: Head, words: &[u32]) -> Decoded
     };
     let read = Read::Accepted(record, 5 + count);
     let serves = serves_to(words, count);
-    Decoded { read, serves }
+    Ok(Decoded { read, serves })
 }
 
-pub fn decode_stop(head: Head, words: &[u32]) -> Decoded
+pub fn decode_stop(head: Head, words: &[u32]) -> Result<Decoded, Refusal>
     ensures { result ≡ answer (stop_record head words.now) }
 {
     let field_outside = (head.n != 0) | (head.s > 63) | (head.v != 0);
@@ -142,7 +142,7 @@ fn motion_outside(motion: Motion) -> bool
         | outside_from_zero(motion.inspection_speed_factor, 10.0)
 }
 
-pub fn decode_car(head: Head, words: &[u32]) -> Decoded
+pub fn decode_car(head: Head, words: &[u32]) -> Result<Decoded, Refusal>
     ensures { result ≡ answer (car_record head words.now) }
 {
     let field_outside = (head.s > 7) | (head.v != 0);
@@ -216,27 +216,19 @@ fn rider_phase(phase: u8, car: u8) -> RiderPhase
     }
 }
 
-fn car_option(car: u8) -> CarOption
+fn car_option(car: u8) -> Option<u8>
     ensures { result ≡ car_option car }
 {
-    if car == 255 {
-        CarOption::NoCar
-    } else {
-        CarOption::OfCar(car)
-    }
+    if car == 255 { None } else { Some(car) }
 }
 
-fn stop_option(stop: u32) -> StopOption
+fn stop_option(stop: u32) -> Option<u8>
     ensures { result ≡ stop_option stop }
 {
-    if stop < 64 {
-        StopOption::Stop(stop as u8)
-    } else {
-        StopOption::NoStop
-    }
+    if stop < 64 { Some(stop as u8) } else { None }
 }
 
-pub fn decode_rider(head: Head, words: &[u32]) -> Decoded
+pub fn decode_rider(head: Head, words: &[u32]) -> Result<Decoded, Refusal>
     ensures { result ≡ answer (rider_record head words.now) }
 {
     let body = rider_body(word_at(words, 1));

@@ -7,8 +7,8 @@ use Rattle.world.specs.Refusal.{check}
 use Rattle.world.specs.declared.refusal.Refusal.TheVariants.{CutShort, FieldOutside, FloatOutside}
 use Rattle.world.specs.declared.ServiceMode.{ServiceMode}
 use Rattle.world.specs.declared.ServiceMode.TheVariants.{Normal, Independent, Inspection, Manual, OutOfService}
-use Rattle.world.specs.declared.SpeedOption.{SpeedOption}
-use Rattle.world.specs.declared.SpeedOption.TheVariants.{NoSpeed, Speed}
+use Rattle.std.specs.declared.option.Option.{Option}
+use Rattle.std.specs.declared.option.Option.TheVariants.{None, Some}
 use Rattle.fields.specs.declared.head.Head.{Head}
 use Rattle.fields.specs.Fields.{float_at, raw_zero_at, outside_size, outside_above_zero}
 use Rattle.tape_records.specs.declared.Record.TheVariants as Record
@@ -40,8 +40,8 @@ mode_record h = record {
 
 -- ---- 7 manual speed: n car, v 1 set, 0 none; body a float (raw zero words if none)
 
-abbrev pub speed_of : ℕ → Float → SpeedOption
-speed_of v speed = cond (eqb v 1) (Speed speed) NoSpeed
+abbrev pub speed_of : ℕ → Float → Option Float
+speed_of v speed = cond (eqb v 1) (Some speed) None
 
 abbrev pub manual_speed_record : Head → List ℕ → Deed
 manual_speed_record h ws = record {

@@ -9,9 +9,10 @@ use door::DoorCommand;
 use fields::body::{float_at, outside_above_zero, outside_size, raw_zero_at};
 use fields::head::Head;
 use tape_records::{Decoded, Read, Record, checked, checked_read};
-use world::{ServiceMode, SpeedOption};
+use world::ServiceMode;
+use world::refusal::Refusal;
 
-pub fn decode_send(head: Head) -> Decoded
+pub fn decode_send(head: Head) -> Result<Decoded, Refusal>
     ensures { result ≡ answer (send_record head) }
 {
     let field_outside = (head.s > 63) | (head.v > 1);
@@ -35,7 +36,7 @@ fn mode_of(v: u32) -> ServiceMode
     }
 }
 
-pub fn decode_mode(head: Head) -> Decoded
+pub fn decode_mode(head: Head) -> Result<Decoded, Refusal>
     ensures { result ≡ answer (mode_record head) }
 {
     let field_outside = (head.s != 0) | (head.v > 4);
@@ -44,17 +45,13 @@ pub fn decode_mode(head: Head) -> Decoded
     checked(false, field_outside, false, record, 1)
 }
 
-fn speed_of(v: u32, speed: f64) -> SpeedOption
+fn speed_of(v: u32, speed: f64) -> Option<f64>
     ensures { result ≡ speed_of v speed }
 {
-    if v == 1 {
-        SpeedOption::Speed(speed)
-    } else {
-        SpeedOption::NoSpeed
-    }
+    if v == 1 { Some(speed) } else { None }
 }
 
-pub fn decode_manual_speed(head: Head, words: &[u32]) -> Decoded
+pub fn decode_manual_speed(head: Head, words: &[u32]) -> Result<Decoded, Refusal>
     ensures { result ≡ answer (manual_speed_record head words.now) }
 {
     let raw_zero = raw_zero_at(words, 1);
@@ -77,7 +74,7 @@ fn command_of(s: u8, v: u32) -> DoorCommand
     }
 }
 
-pub fn decode_door_command(head: Head) -> Decoded
+pub fn decode_door_command(head: Head) -> Result<Decoded, Refusal>
     ensures { result ≡ answer (door_command_record head) }
 {
     let field_outside = (head.s > 3) | (head.s != 2) & (head.v != 0);
@@ -89,7 +86,7 @@ pub fn decode_door_command(head: Head) -> Decoded
     checked(false, field_outside, false, record, 1)
 }
 
-pub fn decode_hall_call(head: Head) -> Decoded
+pub fn decode_hall_call(head: Head) -> Result<Decoded, Refusal>
     ensures { result ≡ answer (hall_call_record head) }
 {
     let field_outside = (head.n != 0) | (head.s > 63) | (head.v > 1);
@@ -100,7 +97,7 @@ pub fn decode_hall_call(head: Head) -> Decoded
     checked(false, field_outside, false, record, 1)
 }
 
-pub fn decode_destination(head: Head) -> Decoded
+pub fn decode_destination(head: Head) -> Result<Decoded, Refusal>
     ensures { result ≡ answer (destination_record head) }
 {
     let field_outside = (head.s > 63) | (head.v != 0);
@@ -111,7 +108,7 @@ pub fn decode_destination(head: Head) -> Decoded
     checked(false, field_outside, false, record, 1)
 }
 
-pub fn decode_enable(head: Head) -> Decoded
+pub fn decode_enable(head: Head) -> Result<Decoded, Refusal>
     ensures { result ≡ answer (enable_record head) }
 {
     let field_outside = (head.s != 0) | (head.v > 1);
@@ -129,7 +126,7 @@ fn any_field_set(head: Head) -> bool
     (head.n != 0) | (head.s != 0) | (head.v != 0)
 }
 
-pub fn decode_tick(head: Head, words: &[u32]) -> Decoded
+pub fn decode_tick(head: Head, words: &[u32]) -> Result<Decoded, Refusal>
     ensures { result ≡ answer (tick_record head words.now) }
 {
     let field_outside = any_field_set(head);
@@ -139,7 +136,7 @@ pub fn decode_tick(head: Head, words: &[u32]) -> Decoded
     checked_read(words.len() < 3, field_outside, float_outside, read)
 }
 
-pub fn decode_start(head: Head) -> Decoded
+pub fn decode_start(head: Head) -> Result<Decoded, Refusal>
     ensures { result ≡ answer (start_record head) }
 {
     let field_outside = any_field_set(head);

@@ -1,12 +1,12 @@
 -- What is read of a tape (the input record stream): an answer, the checks before it, and the ranges of numbers and floats.
-use Rattle.std.specs.Prelude.{Bool, not, List, ℕ, ltb, eqb, replicate, Float}
+use Rattle.std.specs.Prelude.{Result, Ok, Err, Bool, not, List, ℕ, ltb, eqb, replicate, Float}
 use Rattle.std.specs.Float.{binary64}
 use Rattle.std.specs.Float.Ieee.{of_bits}
 use Rattle.world.specs.Refusal.{Check, unless}
 use Rattle.world.specs.declared.refusal.Refusal.{Refusal}
 use Rattle.tape_records.specs.declared.Record.{Record}
 use Rattle.tape_records.specs.declared.Read.{Read}
-use Rattle.tape_records.specs.declared.Read.TheVariants.{Refused, Accepted}
+use Rattle.tape_records.specs.declared.Read.TheVariants.{Accepted}
 use Rattle.tape_records.specs.declared.Decoded.{Decoded}
 
 -- ---- numbers: "Stops 0 to 63, cars 0 to 15, riders 0 to 127", lines 0 to 7; "Fields not named are 0"
@@ -43,9 +43,6 @@ ten = of_bits binary64 0x4024_0000_0000_0000
 abbrev pub alone : Read → Decoded
 alone r = record { read = r; serves = replicate 64 0 }
 
-abbrev pub refused : Refusal → Decoded
-refused r = alone (Refused r)
-
 -- a record and the words that it takes
 abbrev pub accepted : Record → ℕ → Decoded
 accepted r used = alone (Accepted r used)
@@ -55,5 +52,5 @@ pub record Deed : Type 0 where
   pub checks : List Check
   pub done : Decoded
 
-abbrev pub answer : Deed → Decoded
-answer d = unless d.checks refused d.done
+abbrev pub answer : Deed → Result Decoded Refusal
+answer d = unless d.checks Err (Ok d.done)

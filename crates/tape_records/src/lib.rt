@@ -1,13 +1,13 @@
 // A tape's records with their values, what is read of a tape, and the checks of a record in their order.
 #![tactic(auto)]
 
-ghost use Rattle.std.specs.Prelude.{◌≡◌, [], ◌∷◌};
-ghost use Rattle.tape_records.specs.Answers.{alone, accepted, refused};
+ghost use Rattle.std.specs.Prelude.{◌≡◌, [], ◌∷◌, Ok, Err};
+ghost use Rattle.tape_records.specs.Answers.{alone, accepted};
 ghost use Rattle.world.specs.Refusal.{check, unless};
 
 use door::DoorCommand;
 use world::refusal::Refusal;
-use world::{CarPlan, LineKind, Rider, ServiceMode, SpeedOption};
+use world::{CarPlan, LineKind, Rider, ServiceMode};
 
 // A record other than a tick, with its values. A line's list stands beside it, in Decoded.
 #[derive(Clone, Copy)]
@@ -41,7 +41,7 @@ pub enum Record {
     },
     ManualSpeed {
         car: u8,
-        speed: SpeedOption,
+        speed: Option<f64>,
     },
     DoorCommand {
         car: u8,
@@ -62,10 +62,9 @@ pub enum Record {
     Start,
 }
 
-// A refusal, a record and how many words it took, or a tick.
+// A record and how many words it took, or a tick.
 #[derive(Clone, Copy)]
 pub enum Read {
-    Refused(Refusal),
     Accepted(Record, usize),
     Tick { dt: f64, used: usize },
 }
@@ -77,17 +76,6 @@ pub struct Decoded {
     pub serves: [u8; 64],
 }
 
-// A refusal alone.
-pub fn refused(refusal: Refusal) -> Decoded
-    ensures { result ≡ refused refusal }
-{
-    let read = Read::Refused(refusal);
-    Decoded {
-        read,
-        serves: [0u8; 64],
-    }
-}
-
 // The checks of a record without a list, in their order.
 pub fn checked(
     cut_short: bool,
@@ -95,8 +83,8 @@ pub fn checked(
     float_outside: bool,
     found: Record,
     used: usize,
-) -> Decoded
-    ensures { result ≡ unless (check Refusal.CutShort cut_short ∷ check Refusal.FieldOutside field_outside ∷ check Refusal.FloatOutside float_outside ∷ []) refused (accepted found used) }
+) -> Result<Decoded, Refusal>
+    ensures { result ≡ unless (check Refusal.CutShort cut_short ∷ check Refusal.FieldOutside field_outside ∷ check Refusal.FloatOutside float_outside ∷ []) Err (Ok (accepted found used)) }
 {
     let read = Read::Accepted(found, used);
     checked_read(cut_short, field_outside, float_outside, read)
@@ -108,20 +96,20 @@ pub fn checked_read(
     field_outside: bool,
     float_outside: bool,
     read: Read,
-) -> Decoded
-    ensures { result ≡ unless (check Refusal.CutShort cut_short ∷ check Refusal.FieldOutside field_outside ∷ check Refusal.FloatOutside float_outside ∷ []) refused (alone read) }
+) -> Result<Decoded, Refusal>
+    ensures { result ≡ unless (check Refusal.CutShort cut_short ∷ check Refusal.FieldOutside field_outside ∷ check Refusal.FloatOutside float_outside ∷ []) Err (Ok (alone read)) }
 {
     if cut_short {
-        return refused(Refusal::CutShort);
+        return Err(Refusal::CutShort);
     }
     if field_outside {
-        return refused(Refusal::FieldOutside);
+        return Err(Refusal::FieldOutside);
     }
     if float_outside {
-        return refused(Refusal::FloatOutside);
+        return Err(Refusal::FloatOutside);
     }
-    Decoded {
+    Ok(Decoded {
         read,
         serves: [0u8; 64],
-    }
+    })
 }

@@ -13,8 +13,8 @@ use Rattle.motion.specs.declared.movement.MovementResult.{MovementResult}
 use Rattle.world.specs.World.{stop_at}
 use Rattle.world.specs.declared.LineKind.{LineKind}
 use Rattle.world.specs.declared.LineKind.TheVariants.{Linear, Loop}
-use Rattle.world.specs.declared.StopOption.{StopOption}
-use Rattle.world.specs.declared.StopOption.TheVariants.{NoStop, Stop}
+use Rattle.std.specs.declared.option.Option.{Option}
+use Rattle.std.specs.declared.option.Option.TheVariants.{None, Some}
 use Rattle.sorted.specs.Sorted.{sorted_stops}
 use Rattle.trips.specs.Spans.{span_of, manual_span}
 use Rattle.trips.specs.declared.span.Span.{Span}
@@ -28,7 +28,7 @@ use Rattle.movement_system.proofs.Emitting.{without_most}
 use Rattle.laws.proofs.Choices.{both, cases}
 use Rattle.tick.proofs.Apart.{ends_apart}
 
-module _ (stops : List Float) (n : ℕ) (target : StopOption) where
+module _ (stops : List Float) (n : ℕ) (target : Option ℕ) where
   abbrev ss : List ℕ
   ss = sorted_stops stops n
 
@@ -83,7 +83,7 @@ module _ (stops : List Float) (n : ℕ) (target : StopOption) where
       (λ e. seam_fits old circumference new (and_left (lt new old) (le Float.zero velocity) e)) (λ e. ranges_fit old new)
 
 pub passed_fits : (trip : Trip) (kind : LineKind) (stops : List Float) (n : ℕ) (old : Float) (r : MovementResult) → length (passed_by trip kind stops n old r) ≤ n
-passed_fits Rests kind stops n old r = span_fits stops n NoStop kind old r.position
-passed_fits Drives kind stops n old r = manual_fits stops n NoStop kind old r.position r.velocity
-passed_fits (GoesTo s) kind stops n old r = span_fits stops n (Stop s) kind old r.position
-passed_fits (Repositions s) kind stops n old r = span_fits stops n (Stop s) kind old r.position
+passed_fits Rests kind stops n old r = span_fits stops n None kind old r.position
+passed_fits Drives kind stops n old r = manual_fits stops n None kind old r.position r.velocity
+passed_fits (GoesTo s) kind stops n old r = span_fits stops n (Some s) kind old r.position
+passed_fits (Repositions s) kind stops n old r = span_fits stops n (Some s) kind old r.position

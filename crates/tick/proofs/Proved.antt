@@ -8,8 +8,8 @@ use lib.ListN.{length, length-append}
 use lib.Ieee.{Float}
 use Rattle.world.specs.World.{car_at}
 use Rattle.world.specs.declared.World.{World}
-use Rattle.world.specs.declared.StopOption.{StopOption}
-use Rattle.world.specs.declared.StopOption.TheVariants.{NoStop, Stop}
+use Rattle.std.specs.declared.option.Option.{Option}
+use Rattle.std.specs.declared.option.Option.TheVariants.{None, Some}
 use Rattle.laws.specs.Numbers.{bit}
 use Rattle.read_back.proofs.Reading.{kind_tick}
 use Rattle.steps.specs.Steps.{run_to, run_cars}
@@ -27,17 +27,17 @@ use Rattle.tick.proofs.Runs.{stops_in, Told, run_told, Grown, run_grown}
 
 -- ---- the hall calls
 
-match_quiet : (stop : StopOption) (i : ℕ) (o : JustOpened) (h : Standing) → Quiet (2 * ones stop) (clear_matching_words stop i o h)
+match_quiet : (o : Option JustOpened) (i : ℕ) (h : Standing) → Quiet (2 * ones o) (clear_matching_words o i h)
 unfolding clear_word
-match_quiet NoStop i o h = quiet_none
-match_quiet (Stop s) i o h =
-    quiet_join (quiet_if (clears h.up s o.going_up) 9 i s (bit false) refl) (quiet_if (clears h.down s o.going_down) 9 i s (bit true) refl)
+match_quiet None i h = quiet_none
+match_quiet (Some o) i h =
+    quiet_join (quiet_if (clears h.up o.stop o.going_up) 9 i o.stop (bit false) refl) (quiet_if (clears h.down o.stop o.going_down) 9 i o.stop (bit true) refl)
 
-calls_quiet : (os : List JustOpened) (h : Standing) (n : ℕ) → Quiet (2 * stops_in os n) (clear_words_to os h n)
+calls_quiet : (os : List (Option JustOpened)) (h : Standing) (n : ℕ) → Quiet (2 * stops_in os n) (clear_words_to os h n)
 unfolding clear_words_to stops_in sum_to
 calls_quiet os h zero = quiet_none
 calls_quiet os h (suc n) =
-    quiet_more (omega arith) (quiet_join (calls_quiet os h n) (match_quiet (opened_of os h n).stop n (opened_of os h n) (clear_to os h n)))
+    quiet_more (omega arith) (quiet_join (calls_quiet os h n) (match_quiet (opened_of os h n) n (clear_to os h n)))
 
 -- ---- the two systems
 
@@ -68,7 +68,7 @@ pub words_fit : WordsFit
 unfolding WordsFit room_of tick_words doors_words
 words_fit w dt =
     let v : World = (moved w dt).world in
-    let os : List JustOpened = (doored v).opened in
+    let os : List (Option JustOpened) = (doored v).opened in
     omega (
       arith,
       parts (moved w dt).words (doored v).words (clear_words_to os (standing v) (cars_of v)),

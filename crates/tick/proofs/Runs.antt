@@ -11,6 +11,7 @@ use lib.Seq.{get_or-set_other}
 use Rattle.world.specs.World.{car_at, no_car}
 use Rattle.world.specs.declared.World.{World}
 use Rattle.steps.specs.Steps.{Step, Run, run_to, not_opened}
+use Rattle.std.specs.declared.option.Option.{Option}
 use Rattle.steps.specs.declared.JustOpened.{JustOpened}
 use Rattle.steps.proofs.Cars.{by_turns, kept}
 use Rattle.laws.specs.Counting.{how_many}
@@ -25,21 +26,21 @@ at_set (y ∷ l) (suc i) x d = at_set l i x d
 
 -- ---- the stops where a door has opened
 
-unfoldable pub stops_in : List JustOpened → ℕ → ℕ
-stops_in os = sum_to (λ j. ones (get_or os j not_opened).stop)
+unfoldable pub stops_in : List (Option JustOpened) → ℕ → ℕ
+stops_in os = sum_to (λ j. ones (get_or os j not_opened))
 
-module _ (os : List JustOpened) (i : ℕ) (o : JustOpened) where
+module _ (os : List (Option JustOpened)) (i : ℕ) (o : Option JustOpened) where
   stops_below : (n : ℕ) → n ≤ i → stops_in (set os i o) n ≡ stops_in os n
   unfolding stops_in sum_to
   stops_below zero h = refl
   stops_below (suc n) h = rw (stops_below n (omega arith), get_or-set_other os i n o not_opened (λ (e : n ≡ i). omega (arith, e)))
 
-  stops_set : stops_in (set os i o) (suc i) ≤ stops_in os i + ones o.stop
+  stops_set : stops_in (set os i o) (suc i) ≤ stops_in os i + ones o
   unfolding stops_in sum_to
   stops_set = omega (arith, stops_below i (omega arith), here (at_set os i o not_opened))
     where
       here : (get_or (set os i o) i not_opened ≡ o) ⊎ ((get_or (set os i o) i not_opened ≡ not_opened) × (get_or os i not_opened ≡ not_opened))
-          → ones (get_or (set os i o) i not_opened).stop ≤ ones o.stop
+          → ones (get_or (set os i o) i not_opened) ≤ ones o
       here (inl e) = rw e (omega arith)
       here (inr e) = rw e.0 (omega arith)
 

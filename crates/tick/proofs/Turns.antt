@@ -12,8 +12,9 @@ use Rattle.world.specs.declared.World.{World}
 use Rattle.world.specs.declared.Car.{Car}
 use Rattle.world.specs.declared.QueuedCommand.{QueuedCommand}
 use Rattle.world.specs.declared.LineKind.{LineKind}
-use Rattle.world.specs.declared.StopOption.{StopOption}
-use Rattle.world.specs.declared.StopOption.TheVariants.{NoStop, Stop}
+use Rattle.std.specs.declared.option.Option.{Option}
+use Rattle.steps.specs.declared.JustOpened.{JustOpened}
+use Rattle.std.specs.declared.option.Option.TheVariants.{None, Some}
 use Rattle.log_words.specs.Words.{word, word_of, code_of, ticks_of}
 use Rattle.laws.specs.Numbers.{bit}
 use Rattle.log_words.specs.declared.Event.TheVariants.{ElevatorIdle}
@@ -77,9 +78,9 @@ lamps_quiet i was lamps =
 -- ---- the turn
 
 -- a door that has opened at a stop may clear two calls
-abbrev pub ones : StopOption → ℕ
-ones NoStop = 0
-ones (Stop s) = 1
+abbrev pub ones : Option JustOpened → ℕ
+ones None = 0
+ones (Some o) = 1
 
 pub plus_plain : (a b : ℕ) → a < 2 ^ 50 → b ≤ 2 ^ 50 → plus a b ≡ a + b
 unfolding plus
@@ -87,7 +88,7 @@ plus_plain a b h k = omega arith
 
 -- a turn of car c: its words fit with those of the calls that it may clear, and its moves are counted
 pub record Fair (room most before : ℕ) (c : Car) (s : Step) : Type 0 where
-  pub size : length s.words + 2 * ones s.opened.stop ≤ room
+  pub size : length s.words + 2 * ones s.opened ≤ room
   pub few : moves_in s.words ≤ most
   pub car : c.move_count < 2 ^ 50 → s.car.move_count ≡ c.move_count + moves_in s.words
   pub total : before < 2 ^ 50 → s.total ≡ before + moves_in s.words
@@ -177,22 +178,22 @@ module _ (c : Car) (at_stop traversing : Bool) (i : ℕ) where
 
 -- the door's turn of car c
 pub record Shuts (c : Car) (room : ℕ) (t : Turn) : Type 0 where
-  pub size : length t.words + 2 * ones t.opened.stop ≤ room
+  pub size : length t.words + 2 * ones t.opened ≤ room
   pub none : moves_in t.words ≡ 0
   pub count : t.car.move_count ≡ c.move_count
 
-shuts : {n : ℕ} {t : Turn} (c : Car) (room : ℕ) → Quiet n t.words → n + 2 * ones t.opened.stop ≤ room → t.car.move_count ≡ c.move_count → Shuts c room t
+shuts : {n : ℕ} {t : Turn} (c : Car) (room : ℕ) → Quiet n t.words → n + 2 * ones t.opened ≤ room → t.car.move_count ≡ c.move_count → Shuts c room t
 shuts c room q h e = record { size = omega (arith, q.size); none = q.none; count = e }
 
-opened_most : (s : StopOption) (c : Car) → ones (opened_at s c).stop ≤ 1
-opened_most NoStop c = omega arith
-opened_most (Stop s) c = omega arith
+opened_most : (s : Option ℕ) (c : Car) → ones (opened_at s c) ≤ 1
+opened_most None c = omega arith
+opened_most (Some s) c = omega arith
 
-departed_quiet : (s : StopOption) (i : ℕ) → Quiet 1 (departed_from s i)
-departed_quiet NoStop i = quiet_more (omega arith) quiet_none
-departed_quiet (Stop s) i = quiet_one 8 i s 0 refl
+departed_quiet : (s : Option ℕ) (i : ℕ) → Quiet 1 (departed_from s i)
+departed_quiet None i = quiet_more (omega arith) quiet_none
+departed_quiet (Some s) i = quiet_one 8 i s 0 refl
 
-door_shuts : (i : ℕ) (c : Car) (k : Work) (next : StopOption) → Shuts c 3 (door_by k.phase k.door i c k next)
+door_shuts : (i : ℕ) (c : Car) (k : Work) (next : Option ℕ) → Shuts c 3 (door_by k.phase k.door i c k next)
 door_shuts i c k next =
     door_cases (Shuts c 3) i c k next (λ d. shuts c 3 quiet_none (omega arith) refl)
     (λ d. shuts c 3 (quiet_one 6 i 0 0 refl) (omega (arith, opened_most c.target_stop c)) refl)
@@ -207,7 +208,7 @@ after_shuts {c} {ws} t q h = record {
   count = h.count;
 }
 
-turn_shuts : (i : ℕ) (c : Car) (at_stop traversing : Bool) (next : StopOption) → Shuts c 11 (door_turn i c at_stop traversing next)
+turn_shuts : (i : ℕ) (c : Car) (at_stop traversing : Bool) (next : Option ℕ) → Shuts c 11 (door_turn i c at_stop traversing next)
 unfolding how_many
 turn_shuts i c at_stop traversing next =
     let k : Work = process_door_commands c at_stop traversing in

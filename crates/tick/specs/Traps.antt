@@ -15,7 +15,7 @@ use Rattle.world.specs.declared.Motion.{Motion}
 use Rattle.world.specs.declared.LineKind.{LineKind}
 use Rattle.world.specs.declared.LineKind.TheVariants.{Linear, Loop}
 use Rattle.world.specs.declared.ElevatorPhase.TheVariants.{MovingToStop}
-use Rattle.world.specs.declared.StopOption.TheVariants.{NoStop, Stop}
+use Rattle.std.specs.declared.option.Option.TheVariants.{None, Some}
 use Rattle.sorted.specs.Sorted.{sorted_stops}
 use Rattle.landing.specs.Landing.{driven_to}
 use Rattle.movement_system.specs.Passing.{start_of, end_of, emit_range}
@@ -76,7 +76,7 @@ motion position velocity = record {
 -- as a send leaves a car
 abbrev sent : Car → ℕ → Car
 sent c stop =
-    with_orders c (MovingToStop stop) c.service_mode c.enabled false (Stop stop) c.manual_target_velocity c.destination_queue
+    with_orders c (MovingToStop stop) c.service_mode c.enabled false (Some stop) c.manual_target_velocity c.destination_queue
     c.destination_count c.door_command_queue c.command_count
 
 -- both door times 1
@@ -143,7 +143,7 @@ pub record Traps : Type 0 where
   pub not_early : le close (add binary64 Float.zero epsilon) ≡ false
   pub first : start_of tiny (sorted_stops tiny 1) (add binary64 Float.zero epsilon) ≡ 1
   pub second : end_of tiny (sorted_stops tiny 1) (sub binary64 close epsilon) ≡ 0
-  pub writes_none : emit_range tiny (sorted_stops tiny 1) NoStop Float.zero close false ≡ []
+  pub writes_none : emit_range tiny (sorted_stops tiny 1) None Float.zero close false ≡ []
   -- "After a seam the lower end is taken with lo - 1e-9": the stop at 0 is told, after those before the seam
   pub seam : words_of_ticks 1 over_the_seam ≡ 0 ∷ 0x1001_0001 ∷ 0x1000_0001 ∷ 0x1002_0001 ∷ []
   -- the tape: "four ticks of 0.5. Output ..", "moves 1", "Log 17 words: accepted"

@@ -11,8 +11,8 @@ use Rattle.layout.specs.Layout.{kind_of}
 use Rattle.record.specs.Record.{Outcome, record_of, is_accepted, written_of}
 use Rattle.conditions.specs.Conditions.{Kept}
 use Rattle.record.specs.Calls.{Call, outcome, next, head_word, world_after}
-use Rattle.record.specs.declared.Answer.{Answer}
-use Rattle.record.specs.declared.Answer.TheVariants.{Accepted, Refused}
+use Rattle.record.specs.Record.{Answer}
+use Rattle.std.specs.Prelude.{Ok, Err}
 use Rattle.certificate.specs.Certificate.{told, joined}
 use Rattle.laws.specs.Counting.{how_many}
 use Rattle.laws.proofs.Bools.{no}
@@ -63,11 +63,11 @@ said_joined (c ∷ cs) w us left a = by (outcome w c).answer refl (λ vs. said_j
 
     by : (r : Answer) → o.answer ≡ r → Rest → Play.told r o.log ++ goes_on r (said o.world (counts_after r o.log (count_more no_counts us)) cs left)
         ≡ word_lines (told w c ++ joined o.world cs) ++ ending (world_after o.world cs) (count_more no_counts (us ++ (told w c ++ joined o.world cs))) (length left)
-    by (Accepted used written) e i =
+    by (Ok a) e i =
         let t : take written o.log ≡ told w c = ap (λ (x : Answer). take (written_of x) o.log) (sym e) ∙ tells w c a.0 in
         rw (Counted.joined, i (us ++ take written o.log), ← t)
         (glue (take written o.log) (joined o.world cs) us (λ (vs : List ℕ). ending (world_after o.world cs) (count_more no_counts vs) (length left)))
-    by (Refused r) e i = no (rw e at a.0)
+    by (Err r) e i = no (rw e at a.0)
 
 none_counted : count_more no_counts [] ≡ no_counts
 unfolding count_more counts_of how_many any_unknown plus

@@ -12,8 +12,8 @@ use Rattle.world.specs.declared.World.{World}
 use Rattle.record.specs.Record.{Outcome, record_of, is_accepted, used_of}
 use Rattle.record.specs.Calls.{outcome}
 use Rattle.conditions.specs.Conditions.{Kept, FirstCondition}
-use Rattle.record.specs.declared.Answer.{Answer}
-use Rattle.record.specs.declared.Answer.TheVariants.{Accepted, Refused}
+use Rattle.record.specs.Record.{Answer}
+use Rattle.std.specs.Prelude.{Ok, Err}
 use Rattle.conditions.proofs.Answering.{first_condition}
 use Rattle.report.specs.declared.Counts.{Counts}
 use Rattle.study_text.specs.Text.{word, words_of}
@@ -54,8 +54,8 @@ pub fewer : (b : List ℕ) (used : ℕ) → 0 < used → used ≤ length (words_
 fewer b used p h = rw (words_drop b used (4 * used) refl, length-drop) (omega arith)
 
 rest_same : (a : Answer) (b : List ℕ) (x y : Made) → (is_accepted a ≡ true → x ≡ y) → unless_refused a b x ≡ unless_refused a b y
-rest_same (Accepted used written) b x y h = h refl
-rest_same (Refused r) b x y h = refl
+rest_same (Ok a) b x y h = h refl
+rest_same (Err r) b x y h = refl
 
 abbrev made_then : List ℕ → List ℕ → Made → Made
 made_then log b x = cond (eqb (length (words_of b)) 0) (record { calls = []; left = b }) (made_first (record { words = words_of b; log = log }) x)
@@ -104,12 +104,12 @@ printed_one n w c log b o e h =
     (goes_made o.answer b (made n o.world o.log (drop (4 * used_of o.answer) b)) (λ (m : Made). said o.world (counts_after o.answer o.log c) m.calls m.left)))
   where
     goes_made : (a : Answer) (b : List ℕ) (m : Made) (f : Made → List ℕ) → goes_on a (f (unless_refused a b m)) ≡ goes_on a (f m)
-    goes_made (Accepted used written) b m f = refl
-    goes_made (Refused r) b m f = refl
+    goes_made (Ok a) b m f = refl
+    goes_made (Err r) b m f = refl
 
 cond_goes : (a : Answer) (s t : List ℕ) → (is_accepted a ≡ true → s ≡ t) → cond (not (is_accepted a)) [] s ≡ goes_on a t
-cond_goes (Accepted used written) s t h = h refl
-cond_goes (Refused r) s t h = refl
+cond_goes (Ok a) s t h = h refl
+cond_goes (Err r) s t h = refl
 
 module _ (p : Playing) (more : List ℕ) (o : Outcome) where
   abbrev rest : List ℕ

@@ -4,8 +4,8 @@ use Rattle.world.specs.World.{empty_world}
 use Rattle.world.specs.declared.World.{World}
 use Rattle.record.specs.Record.{Outcome, record_of, used_of}
 use Rattle.record.specs.Calls.{Call, outcome}
-use Rattle.record.specs.declared.Answer.{Answer}
-use Rattle.record.specs.declared.Answer.TheVariants.{Accepted, Refused}
+use Rattle.record.specs.Record.{Answer}
+use Rattle.std.specs.Prelude.{Ok, Err}
 use Rattle.report.specs.Report.{no_counts}
 use Rattle.report.specs.declared.Counts.{Counts}
 use Rattle.study_text.specs.Text.{words_of}
@@ -22,8 +22,8 @@ made_first c m = record { calls = c ∷ m.calls; left = m.left }
 
 -- none follows a refusal
 abbrev pub unless_refused : Answer → List ℕ → Made → Made
-unless_refused (Accepted used written) bytes m = m
-unless_refused (Refused r) bytes m = record { calls = []; left = bytes }
+unless_refused (Ok a) bytes m = m
+unless_refused (Err r) bytes m = record { calls = []; left = bytes }
 
 -- "It keeps one world and lends it to each record's call", and so with the log. `more` bounds the calls: each takes a word at least.
 unfoldable pub made : ℕ → World → List ℕ → List ℕ → Made
@@ -41,8 +41,8 @@ made_of tape = made (suc (length tape)) empty_world (replicate 2048 0) tape
 
 -- "at a refusal it prints `refused N` and stops without a report": what is printed after a record
 abbrev pub goes_on : Answer → List ℕ → List ℕ
-goes_on (Accepted used written) rest = rest
-goes_on (Refused r) rest = []
+goes_on (Ok a) rest = rest
+goes_on (Err r) rest = []
 
 -- what is printed of calls from a world on, call after call, and at the end the report, with the bytes that are left then
 unfoldable pub said : World → Counts → List Call → List ℕ → List ℕ

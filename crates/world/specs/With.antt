@@ -2,7 +2,7 @@
 use Rattle.std.specs.Prelude.{Bool, List, ℕ, set, Float}
 use Rattle.door.specs.declared.DoorState.{DoorState}
 use Rattle.world.specs.declared.World.{World}
-use Rattle.world.specs.declared.TickOption.{TickOption}
+use Rattle.std.specs.declared.option.Option.{Option}
 use Rattle.world.specs.declared.Queue.{Queue}
 use Rattle.world.specs.declared.Lamps.{Lamps}
 use Rattle.world.specs.declared.Car.{Car}
@@ -11,8 +11,6 @@ use Rattle.world.specs.declared.Rider.{Rider}
 use Rattle.world.specs.declared.QueuedCommand.{QueuedCommand}
 use Rattle.world.specs.declared.ElevatorPhase.{ElevatorPhase}
 use Rattle.world.specs.declared.ServiceMode.{ServiceMode}
-use Rattle.world.specs.declared.StopOption.{StopOption}
-use Rattle.world.specs.declared.SpeedOption.{SpeedOption}
 
 -- its stops, lines and start
 abbrev pub with_plan : World → List Float → ℕ → List Line → ℕ → Bool → World
@@ -116,7 +114,7 @@ with_ticks w ticks = record {
 -- ---- a car
 
 -- its orders: phase, mode, enabled mark, repositioning flag, target, manual speed, the two queues
-abbrev pub with_orders : Car → ElevatorPhase → ServiceMode → Bool → Bool → StopOption → SpeedOption → List ℕ → ℕ → List QueuedCommand → ℕ → Car
+abbrev pub with_orders : Car → ElevatorPhase → ServiceMode → Bool → Bool → Option ℕ → Option Float → List ℕ → ℕ → List QueuedCommand → ℕ → Car
 with_orders c phase mode enabled repositioning target speed destinations m commands n = record {
   line = c.line;
   phase = phase;
@@ -174,7 +172,7 @@ placed c position velocity count = record {
 }
 
 -- a car that has come to its stop: its phase, door, target, repositioning flag, lamps, queue and cooldown
-abbrev pub with_arrived : Car → ElevatorPhase → DoorState → StopOption → Bool → Lamps → Queue → TickOption → Car
+abbrev pub with_arrived : Car → ElevatorPhase → DoorState → Option ℕ → Bool → Lamps → Queue → Option ℕ → Car
 with_arrived c phase door target repositioning lamps queue cooldown = record {
   line = c.line;
   phase = phase;
@@ -199,7 +197,7 @@ with_arrived c phase door target repositioning lamps queue cooldown = record {
 }
 
 -- a car after its door's turn: its phase, door, target, lamps and command queue
-abbrev pub with_door : Car → ElevatorPhase → DoorState → StopOption → Lamps → Bool → List QueuedCommand → ℕ → Car
+abbrev pub with_door : Car → ElevatorPhase → DoorState → Option ℕ → Lamps → Bool → List QueuedCommand → ℕ → Car
 with_door c phase door target lamps forward commands count = record {
   line = c.line;
   phase = phase;

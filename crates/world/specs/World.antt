@@ -14,10 +14,7 @@ use Rattle.world.specs.declared.QueuedCommand.{QueuedCommand}
 use Rattle.world.specs.declared.LineKind.TheVariants.{Linear}
 use Rattle.world.specs.declared.ElevatorPhase.TheVariants.{Idle}
 use Rattle.world.specs.declared.ServiceMode.TheVariants.{Normal}
-use Rattle.world.specs.declared.StopOption.TheVariants.{NoStop}
-use Rattle.world.specs.declared.CarOption.TheVariants.{NoCar}
-use Rattle.world.specs.declared.SpeedOption.TheVariants.{NoSpeed}
-use Rattle.world.specs.declared.TickOption.TheVariants.{NoTick}
+use Rattle.std.specs.declared.option.Option.TheVariants.{None}
 use Rattle.world.specs.declared.RiderPhase.TheVariants.{Waiting}
 
 -- ---- what a read past a table's end gives
@@ -49,21 +46,21 @@ no_car = record {
   going_down = false;
   going_forward = false;
   repositioning = false;
-  target_stop = NoStop;
-  manual_target_velocity = NoSpeed;
+  target_stop = None;
+  manual_target_velocity = None;
   destination_queue = [];
   destination_count = 0;
   door_command_queue = [];
   command_count = 0;
   move_count = 0;
-  cooldown = NoTick;
+  cooldown = None;
 }
 
 abbrev pub no_line : Line
 no_line = record { kind = Linear; listed = false; serves = []; serves_count = 0 }
 
 abbrev pub no_rider : Rider
-no_rider = record { destination = NoStop; phase = Waiting; aboard = NoCar }
+no_rider = record { destination = None; phase = Waiting; aboard = None }
 
 -- ---- the tables
 
@@ -96,14 +93,14 @@ new_car plan = record {
   going_down = true;
   going_forward = false;
   repositioning = false;
-  target_stop = NoStop;
-  manual_target_velocity = NoSpeed;
+  target_stop = None;
+  manual_target_velocity = None;
   destination_queue = replicate 8 0;
   destination_count = 0;
   door_command_queue = replicate 8 no_command;
   command_count = 0;
   move_count = 0;
-  cooldown = NoTick;
+  cooldown = None;
 }
 
 -- what stands in a car's place before it is loaded

@@ -3,8 +3,8 @@ ghost use Rattle.std.specs.Prelude.{◌≡◌};
 ghost use Rattle.world.specs.World.{new_car, empty_car, empty_world};
 
 use crate::{
-    Car, CarOption, CarPlan, ElevatorPhase, Line, LineKind, Motion, QueuedCommand, Rider,
-    RiderPhase, ServiceMode, SpeedOption, StopOption, TickOption, World,
+    Car, CarPlan, ElevatorPhase, Line, LineKind, Motion, QueuedCommand, Rider, RiderPhase,
+    ServiceMode, World,
 };
 use door::{DoorCommand, DoorState};
 
@@ -30,14 +30,14 @@ pub fn new_car(plan: CarPlan) -> Car
         going_down: true,
         going_forward: false,
         repositioning: false,
-        target_stop: StopOption::NoStop,
-        manual_target_velocity: SpeedOption::NoSpeed,
+        target_stop: None,
+        manual_target_velocity: None,
         destination_queue: [0u8; 8],
         destination_count: 0,
         door_command_queue: commands,
         command_count: 0,
         move_count: 0,
-        cooldown: TickOption::NoTick,
+        cooldown: None,
     }
 }
 
@@ -72,9 +72,9 @@ pub fn empty() -> World
         serves_count: 0,
     };
     let rider = Rider {
-        destination: StopOption::NoStop,
+        destination: None,
         phase: RiderPhase::Waiting,
-        aboard: CarOption::NoCar,
+        aboard: None,
     };
     let car = empty_car();
     let lines = [line; 8];

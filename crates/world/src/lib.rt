@@ -39,7 +39,7 @@ pub struct Motion {
 }
 
 // components/elevator.rs, ElevatorPhase
-#[derive(Clone, Copy)]
+#[derive(Clone, Copy, PartialEq, Eq)]
 pub enum ElevatorPhase {
     Idle,
     MovingToStop(u8),
@@ -51,41 +51,13 @@ pub enum ElevatorPhase {
 }
 
 // components/service_mode.rs, ServiceMode
-#[derive(Clone, Copy)]
+#[derive(Clone, Copy, PartialEq, Eq)]
 pub enum ServiceMode {
     Normal,
     Independent,
     Inspection,
     Manual,
     OutOfService,
-}
-
-// The Rust's Option of a stop.
-#[derive(Clone, Copy)]
-pub enum StopOption {
-    NoStop,
-    Stop(u8),
-}
-
-// The Rust's Option of a car.
-#[derive(Clone, Copy)]
-pub enum CarOption {
-    NoCar,
-    OfCar(u8),
-}
-
-// The Rust's Option of a manual target velocity.
-#[derive(Clone, Copy)]
-pub enum SpeedOption {
-    NoSpeed,
-    Speed(f64),
-}
-
-// The Rust's Option of the tick at which a car may be repositioned again.
-#[derive(Clone, Copy)]
-pub enum TickOption {
-    NoTick,
-    AtTick(u64),
 }
 
 // An entry of a door command queue.
@@ -119,18 +91,18 @@ pub struct Car {
     pub going_down: bool,
     pub going_forward: bool,
     pub repositioning: bool,
-    pub target_stop: StopOption,
-    pub manual_target_velocity: SpeedOption,
+    pub target_stop: Option<u8>,
+    pub manual_target_velocity: Option<f64>,
     pub destination_queue: [u8; 8],
     pub destination_count: usize,
     pub door_command_queue: [QueuedCommand; 8],
     pub command_count: usize,
     pub move_count: u64,
-    pub cooldown: TickOption,
+    pub cooldown: Option<u64>,
 }
 
 // components/rider.rs, RiderPhase
-#[derive(Clone, Copy)]
+#[derive(Clone, Copy, PartialEq, Eq)]
 pub enum RiderPhase {
     Waiting,
     Boarding(u8),
@@ -143,22 +115,22 @@ pub enum RiderPhase {
 }
 
 // A rider: the stop that its route goes to, its phase, and the car whose riders it is among.
-#[derive(Clone, Copy)]
+#[derive(Clone, Copy, PartialEq, Eq)]
 pub struct Rider {
-    pub destination: StopOption,
+    pub destination: Option<u8>,
     pub phase: RiderPhase,
-    pub aboard: CarOption,
+    pub aboard: Option<u8>,
 }
 
 // The lamps (direction indicators) of a car on a linear line.
-#[derive(Clone, Copy)]
+#[derive(Clone, Copy, PartialEq, Eq)]
 pub struct Lamps {
     pub going_up: bool,
     pub going_down: bool,
 }
 
 // A car's queue of destinations.
-#[derive(Clone, Copy)]
+#[derive(Clone, Copy, PartialEq, Eq)]
 pub struct Queue {
     pub stops: [u8; 8],
     pub count: usize,

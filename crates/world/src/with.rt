@@ -2,10 +2,7 @@
 ghost use Rattle.std.specs.Prelude.{◌≡◌};
 ghost use Rattle.world.specs.With as With;
 
-use crate::{
-    Car, ElevatorPhase, Lamps, Queue, QueuedCommand, ServiceMode, SpeedOption, StopOption,
-    TickOption,
-};
+use crate::{Car, ElevatorPhase, Lamps, Queue, QueuedCommand, ServiceMode};
 use door::DoorState;
 
 // A car with another phase, mode, repositioning flag, target and manual speed.
@@ -14,8 +11,8 @@ pub fn with_orders(
     phase: ElevatorPhase,
     mode: ServiceMode,
     repositioning: bool,
-    target: StopOption,
-    speed: SpeedOption,
+    target: Option<u8>,
+    speed: Option<f64>,
 ) -> Car
     ensures { result ≡ With.with_orders car phase mode car.enabled repositioning target speed car.destination_queue car.destination_count car.door_command_queue car.command_count }
 {
@@ -53,11 +50,11 @@ pub fn with_arrived(
     car: Car,
     phase: ElevatorPhase,
     door: DoorState,
-    target: StopOption,
+    target: Option<u8>,
     repositioning: bool,
     lamps: Lamps,
     queue: Queue,
-    cooldown: TickOption,
+    cooldown: Option<u64>,
 ) -> Car
     ensures { result ≡ With.with_arrived car phase door target repositioning lamps queue cooldown }
 {
@@ -95,7 +92,7 @@ pub fn with_door(
     car: Car,
     phase: ElevatorPhase,
     door: DoorState,
-    target: StopOption,
+    target: Option<u8>,
     lamps: Lamps,
     going_forward: bool,
     commands: [QueuedCommand; 8],

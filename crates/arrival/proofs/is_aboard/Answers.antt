@@ -2,5 +2,5 @@
 use borrow.Author.Rules.{rules}
 use Rattle.arrival.proofs.is_aboard.Goals as goal
 
-pub returns-in-OfCar : goal.returns-in-OfCar
-returns-in-OfCar c = rw c.in-OfCar.is
+pub returns-in-Some : goal.returns-in-Some
+returns-in-Some c = rw c.in-Some.is

@@ -2,5 +2,5 @@
 use borrow.Author.Rules.{rules}
 use Rattle.arrival.proofs.needing_stop.Goals as goal
 
-pub returns-in-Stop : goal.returns-in-Stop
-returns-in-Stop c = rw (c.in-Stop.is, c.needing.ensures, c.stop_position.ensures)
+pub returns-in-Some : goal.returns-in-Some
+returns-in-Some c = rw (c.in-Some.is, c.needing.ensures, c.stop_position.ensures)

@@ -17,6 +17,6 @@ loop-n-preserved c = (omega arith, rw (add-one, ← c.loop-n.invariant.1) c.need
 
 pub returns : goal.returns
 returns c =
-    let k : c.at_most-count.result ≡ min c.args.rider_count 128 = c.at_most-count.ensures in
-    let e : c.loop-n.n ≡ c.at_most-count.result = omega arith in
+    let k : c.min-count.result ≡ min c.args.rider_count 128 = c.min-count.ensures in
+    let e : c.loop-n.n ≡ c.min-count.result = omega arith in
     rw (← k, ← e) c.loop-n.invariant.1

@@ -18,16 +18,16 @@ returns-then-unloaded-unnamed c =
     c.refused-then-unloaded-unnamed.ensures
     ∙ rw (c.if-not-world.false, lt-leb 16 c.args.car c.if-at-ge16.false, ← c.unloaded.ensures, c.if-unloaded-unnamed.true)
 
-pub returns-in-By : goal.returns-in-By
+pub returns-in-Some : goal.returns-in-Some
 unfolding ordered
-returns-in-By c =
+returns-in-Some c =
     let b = c in
-    c.refused-in-By.ensures
-    ∙ rw (b.if-not-world.false, lt-leb 16 b.args.car b.if-at-ge16.false, ← b.unloaded.ensures, b.if-unloaded-unnamed.false, c.in-By.is)
+    c.refused-in-Some.ensures
+    ∙ rw (b.if-not-world.false, lt-leb 16 b.args.car b.if-at-ge16.false, ← b.unloaded.ensures, b.if-unloaded-unnamed.false, c.in-Some.is)
 
-pub returns-in-No : goal.returns-in-No
+pub returns-in-None : goal.returns-in-None
 unfolding ordered
-returns-in-No c =
+returns-in-None c =
     let b = c in
     c.accepted.ensures
-    ∙ rw (b.if-not-world.false, lt-leb 16 b.args.car b.if-at-ge16.false, ← b.unloaded.ensures, b.if-unloaded-unnamed.false, c.in-No.is)
+    ∙ rw (b.if-not-world.false, lt-leb 16 b.args.car b.if-at-ge16.false, ← b.unloaded.ensures, b.if-unloaded-unnamed.false, c.in-None.is)

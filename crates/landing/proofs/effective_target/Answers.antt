@@ -2,5 +2,5 @@
 use borrow.Author.Rules.{rules}
 use Rattle.landing.proofs.effective_target.Goals as goal
 
-pub returns-in-At : goal.returns-in-At
-returns-in-At c = rw c.in-At.is c.headway_clamp_target.ensures
+pub returns-in-Some : goal.returns-in-Some
+returns-in-Some c = rw c.in-Some.is c.headway_clamp_target.ensures

@@ -8,7 +8,7 @@ use Rattle.motion.specs.declared.movement.MovementResult.{MovementResult}
 use Rattle.world.specs.declared.LineKind.{LineKind}
 use Rattle.world.specs.declared.Car.{Car}
 use Rattle.world.specs.World.{stop_at}
-use Rattle.leader.specs.declared.LeaderOption.{LeaderOption}
+use Rattle.std.specs.declared.option.Option.{Option}
 use Rattle.trips.specs.declared.Trip.{Trip}
 use Rattle.trips.specs.declared.Trip.TheVariants.{GoesTo, Repositions}
 use Rattle.landing.specs.Landing as Landing
@@ -21,7 +21,7 @@ pub returns-in-Drives : goal.returns-in-Drives
 returns-in-Drives c = rw c.in-Drives.is c.driven.ensures
 
 -- a trip to a stop, of either kind
-goes : (t : Trip) (kind : LineKind) (leader : LeaderOption) (car : Car) (stops : List Float) (dt : Float) (s : ℕ) (r : MovementResult) (speed target : Float)
+goes : (t : Trip) (kind : LineKind) (leader : Option Float) (car : Car) (stops : List Float) (dt : Float) (s : ℕ) (r : MovementResult) (speed target : Float)
     → (t ≡ GoesTo s) ⊎ (t ≡ Repositions s) → r ≡ Landing.result_by kind leader car.motion speed target dt
     → target ≡ stop_at stops s → speed ≡ Landing.max_speed_of car → r ≡ Landing.landing t kind leader car stops dt
 goes t kind ahead car stops dt s r speed target (inl e) h a m = rw (e, h, a, m)

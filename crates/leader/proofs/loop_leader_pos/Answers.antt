@@ -29,14 +29,14 @@ pub returns-then-found : goal.returns-then-found
 unfolding loop_leader_pos
 returns-then-found c =
     let b = c in
-    let n : b.at_most-n.result ≡ min b.args.car_count 16 = b.at_most-n.ensures in
-    let e : b.loop-i.i ≡ b.at_most-n.result = omega arith in
+    let n : b.min-n.result ≡ min b.args.car_count 16 = b.min-n.ensures in
+    let e : b.loop-i.i ≡ b.min-n.result = omega arith in
     rw (← n, ← e) (rw c.if-found.true at (pos_held b.loop-i.invariant.1))
 
 pub returns-else-found : goal.returns-else-found
 unfolding loop_leader_pos
 returns-else-found c =
     let b = c in
-    let n : b.at_most-n.result ≡ min b.args.car_count 16 = b.at_most-n.ensures in
-    let e : b.loop-i.i ≡ b.at_most-n.result = omega arith in
+    let n : b.min-n.result ≡ min b.args.car_count 16 = b.min-n.ensures in
+    let e : b.loop-i.i ≡ b.min-n.result = omega arith in
     rw (← n, ← e) (rw c.if-found.false at (pos_held b.loop-i.invariant.1))

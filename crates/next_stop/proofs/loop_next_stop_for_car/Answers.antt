@@ -8,19 +8,20 @@ use Rattle.next_stop.specs.NextStop.{next_stop_by, loop_next_stop_forward, loop_
 use Rattle.world.specs.declared.Line.{Line}
 use Rattle.world.specs.declared.LineKind.{LineKind}
 use Rattle.world.specs.declared.LineKind.TheVariants.{Linear, Loop}
-use Rattle.world.specs.declared.StopOption.{StopOption}
-use Rattle.world.specs.declared.StopOption.TheVariants.{NoStop}
+use Prim.Native.Nat.{ℕ}
+use Rattle.std.specs.declared.option.Option.{Option}
+use Rattle.std.specs.declared.option.Option.TheVariants.{None}
 use Rattle.next_stop.proofs.loop_next_stop_for_car.Goals as goal
 
 module _ (kind : LineKind) (line : Line) (stops : List Float) (position : Float) where
-  linear : kind ≡ Linear → next_stop_by kind line stops position ≡ NoStop
+  linear : kind ≡ Linear → next_stop_by kind line stops position ≡ None
   linear e = rw e
 
-  listed : (circumference headway : Float) (r : StopOption) → kind ≡ Loop circumference headway → line.listed ≡ true
+  listed : (circumference headway : Float) (r : Option ℕ) → kind ≡ Loop circumference headway → line.listed ≡ true
       → r ≡ loop_next_stop_forward stops circumference line.serves line.serves_count position → r ≡ next_stop_by kind line stops position
   listed circumference headway r e t h = rw (e, t) h
 
-  unlisted : (circumference headway : Float) → kind ≡ Loop circumference headway → line.listed ≡ false → next_stop_by kind line stops position ≡ NoStop
+  unlisted : (circumference headway : Float) → kind ≡ Loop circumference headway → line.listed ≡ false → next_stop_by kind line stops position ≡ None
   unlisted circumference headway e t = rw (e, t)
 
 pub returns-then-line : goal.returns-then-line

@@ -45,6 +45,6 @@ returns c =
     let p = d.is_finite in
     let q = d.is_finite-2 in
     let a = d.args in
-    let n : b.at_most-n.result ≡ min a.serves_count 64 = b.at_most-n.ensures in
-    let e : b.loop-i.i ≡ b.at_most-n.result = omega arith in
+    let n : b.min-n.result ≡ min a.serves_count 64 = b.min-n.ensures in
+    let e : b.loop-i.i ≡ b.min-n.result = omega arith in
     rw (free a.position a.circumference p.result q.result p.ensures q.ensures d.if-is_finite-circumference.false, ← n, ← e, ← b.loop-i.invariant.1) c.stop_of.ensures

@@ -13,7 +13,7 @@ pub returns : goal.returns
 returns c =
     let s = c in
     let a = s.args in
-    let m = c.at_most-end in
+    let m = c.min-end in
     let r = c.play_bytes-played in
     let k = c.close-closed in
     let t = c.keep in
@@ -30,11 +30,11 @@ returns c =
 pub overflow_mul-used : goal.overflow_mul-used
 overflow_mul-used c =
     let r = c.play_bytes-played in
-    let m = c.at_most-end in
+    let m = c.min-end in
     omega (arith, r.ensures.within, words_few (take (m.result - 0) c.args.piece.now), length-take (m.result - 0) c.args.piece.now)
 
 pub overflow_sub-end : goal.overflow_sub-end
 overflow_sub-end c =
     let r = c.play_bytes-played in
-    let m = c.at_most-end in
+    let m = c.min-end in
     omega (arith, r.ensures.within, words_few (take (m.result - 0) c.args.piece.now), length-take (m.result - 0) c.args.piece.now)

@@ -10,6 +10,7 @@ use Rattle.sound.proofs.Unbroken.{in_places}
 use Rattle.world.specs.World.{car_at}
 use Rattle.world.specs.declared.World.{World}
 use Rattle.steps.specs.Steps.{Step, step_of, run_to}
+use Rattle.std.specs.declared.option.Option.{Option}
 use Rattle.steps.specs.declared.JustOpened.{JustOpened}
 use Rattle.laws.specs.Numbers.{plus}
 use Rattle.sorted.specs.Sorted.{sorted_table}
@@ -27,7 +28,7 @@ use Rattle.record.proofs.record.Goals.{Else-broken, then-is_trip+then-result, th
 moves_at : {turn : World → ℕ → Step} {world w : World} {l l' : List ℕ} {at i j to : ℕ} → Moves turn world l at i w l' to → i ≡ j → Moves turn world l at j w l' to
 moves_at k e = rw (← e) k
 
-runs_at : {turn : World → ℕ → Step} {world w : World} {l l' : List ℕ} {at i j to : ℕ} {os : List JustOpened} → Runs turn world l at i w os l' to → i ≡ j
+runs_at : {turn : World → ℕ → Step} {world w : World} {l l' : List ℕ} {at i j to : ℕ} {os : List (Option JustOpened)} → Runs turn world l at i w os l' to → i ≡ j
     → Runs turn world l at j w os l' to
 runs_at k e = rw (← e) k
 
@@ -40,7 +41,7 @@ looked w cars i rest found n h k r f = let e : i ≡ min w.car_count 16 = omega 
 
 whole : (c : Else-broken) → broken c.args.world ≡ false
 whole c =
-    looked c.args.world _ c.loop-i.i _ _ c.at_most-cars.ensures c.loop-i.invariant.0 c.loop-i-test.false c.rest_broken-broken.ensures c.loop-i.invariant.1 ∙ c.if-broken.false
+    looked c.args.world _ c.loop-i.i _ _ c.min-cars.ensures c.loop-i.invariant.0 c.loop-i-test.false c.rest_broken-broken.ensures c.loop-i.invariant.1 ∙ c.if-broken.false
 
 pub loop-i-init : goal.loop-i-init
 unfolding any_to
@@ -52,7 +53,7 @@ loop-i-preserved c =
     (omega (arith, c.loop-i-test.true), rw (add-one, c.loop-i.invariant.1, c.car_broken-broken.ensures) (or_assoc c.rest_broken-broken.result _ _))
 
 pub returns-then-broken : goal.returns-then-broken
-returns-then-broken c = is_broken c.args.world _ _ (looked c.args.world _ c.loop-i.i _ _ c.at_most-cars.ensures c.loop-i.invariant.0 c.loop-i-test.false c.rest_broken-broken.ensures c.loop-i.invariant.1 ∙ c.if-broken.true) c.refused.ensures
+returns-then-broken c = is_broken c.args.world _ _ (looked c.args.world _ c.loop-i.i _ _ c.min-cars.ensures c.loop-i.invariant.0 c.loop-i-test.false c.rest_broken-broken.ensures c.loop-i.invariant.1 ∙ c.if-broken.true) c.refused.ensures
 
 -- ---- what was read
 
@@ -86,7 +87,7 @@ loop-i-2-preserved c =
     let order : c.sorted_stops-sort.result ≡ sorted_table s.w.stops n =
     c.sorted_stops-sort.ensures ∙ ap (λ (stops : List Float). sorted_table stops n) (sym (stops_kept s.invariant.1)) in
     let trip = c.trip_of-trip in
-    let so_far : s.i + 1 ≤ c.at_most-cars.result = omega (arith, c.loop-i-2-test.true) in
+    let so_far : s.i + 1 ≤ c.min-cars.result = omega (arith, c.loop-i-2-test.true) in
     elim c.if-is_trip.branch [
       | then-is_trip+then-result u ↦ (
         so_far,
@@ -123,7 +124,7 @@ loop-i-2-preserved c =
 
 pub loop-i-3-init : goal.loop-i-3-init
 unfolding run_to
-loop-i-3-init c = (search rules, record { left = refl; opens = rw c.not_opened-just_opened.ensures; wrote = wrote_none }, c.loop-i-2.invariant.2)
+loop-i-3-init c = (search rules, record { left = refl; opens = rw refl; wrote = wrote_none }, c.loop-i-2.invariant.2)
 
 pub loop-i-3-preserved : goal.loop-i-3-preserved
 loop-i-3-preserved c =
@@ -152,11 +153,11 @@ returns c =
     let s = c.loop-i-2 in
     let t = c.loop-i-3 in
     let w = c.args.world in
-    let n = c.at_most-cars.ensures in
+    let n = c.min-cars.ensures in
     let e : min w.car_count 16 ≡ s.i = omega (arith, n, c.loop-i-2-test.false, s.invariant.0) in
     let k = moves_at s.invariant.1 (sym e) in
     let f : t.i ≡ min s.w.car_count 16 = omega (arith, n, c.loop-i-3-test.false, t.invariant.0, cars_kept k) in
-    let d : min c.at_most-cars.result 16 ≡ min s.w.car_count 16 = omega (arith, n, cars_kept k) in
+    let d : min c.min-cars.result 16 ≡ min s.w.car_count 16 = omega (arith, n, cars_kept k) in
     let r = ended (runs_at t.invariant.1 f) (cleared t.just_opened (calls_kept t.invariant.1) d c.clear_hall_calls-calls.ensures) in
     let x = doored_after c.in-Tick.dt w k r.0 r.1 in
     is_whole w _ _ (whole (goal.at.returns c).Else-broken) c.decode-decoded.ensures

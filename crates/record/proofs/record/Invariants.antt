@@ -10,6 +10,7 @@ use Rattle.sound.proofs.Unbroken.{in_places}
 use Rattle.world.specs.World.{car_at}
 use Rattle.world.specs.declared.World.{World}
 use Rattle.steps.specs.Steps.{Step, step_of, run_to}
+use Rattle.std.specs.declared.option.Option.{Option}
 use Rattle.steps.specs.declared.JustOpened.{JustOpened}
 use Rattle.laws.specs.Numbers.{plus}
 use Rattle.sorted.specs.Sorted.{sorted_table}

@@ -18,6 +18,6 @@ loop-i-preserved c = (omega arith, c.insert.ensures)
 pub returns : goal.returns
 returns c =
     let b = c in
-    let n : b.at_most-n.result ≡ min b.args.stop_count 64 = b.at_most-n.ensures in
-    let e : c.loop-i.i ≡ b.at_most-n.result = omega arith in
+    let n : b.min-n.result ≡ min b.args.stop_count 64 = b.min-n.ensures in
+    let e : c.loop-i.i ≡ b.min-n.result = omega arith in
     rw (← n, ← e) c.loop-i.invariant.1

@@ -1,5 +1,5 @@
 -- `sound_rows::stop_unloaded` meets its contract. Assumes nothing.
 use Rattle.sound_rows.proofs.stop_unloaded.Goals as goal
 
-pub returns-in-Stop : goal.returns-in-Stop
-returns-in-Stop c = rw c.in-Stop.is
+pub returns-in-Some : goal.returns-in-Some
+returns-in-Some c = rw c.in-Some.is
