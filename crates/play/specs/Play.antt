@@ -17,12 +17,12 @@ use Rattle.play.specs.declared.Told.{Told}
 
 -- "prints each log word ..; at a refusal it prints `refused N`": the words are as many from the log's start as the answer says were written
 abbrev pub told : Answer → List ℕ → List ℕ
-told (Ok a) log = word_lines (take written log)
+told (Ok a) log = word_lines (take a.written log)
 told (Err r) log = refused_line r
 
 -- "That line counts the words of all its ticks."
 abbrev pub counts_after : Answer → List ℕ → Counts → Counts
-counts_after (Ok a) log c = count_more c (take written log)
+counts_after (Ok a) log c = count_more c (take a.written log)
 counts_after (Err r) log c = c
 
 -- what the code tells of an answer and the log after it: the text goes into `out` from `at` on, and `out'` is the buffer then

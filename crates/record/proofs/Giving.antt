@@ -13,14 +13,14 @@ use Rattle.tape_records.specs.declared.Read.TheVariants as Read
 use Rattle.tape_records.specs.declared.Decoded.{Decoded}
 use Rattle.tape_records.specs.declared.Record.{Record}
 use Rattle.changes.specs.declared.Changed.{Changed}
-use Rattle.std.specs.Prelude.{Ok, Err}
+use Rattle.std.specs.Prelude.{Result, Ok, Err}
 use Rattle.record_kinds.specs.Kinds.{change_by, tick_taken}
 use Rattle.log_writes.specs.Log.{Wrote}
 use Rattle.tick.specs.Tick.{tick_world, tick_words}
 use Rattle.tick.specs.Room.{room_of, WordsFit}
 use Rattle.tick.proofs.Proved.{words_fit}
 use Rattle.record.specs.declared.Recorded.{Recorded}
-use Rattle.record.specs.Record.{Outcome, Gives, refused, answer_of, checks_of_tick, ticked, tick_once, read_by, record_of}
+use Rattle.record.specs.Record.{Outcome, Gives, refused, answer_of, checks_of_tick, ticked, tick_once, made_of, read_by, record_of}
 
 -- a refusal: the answer, and the world as it was
 abbrev pub Says : Recorded → World → Refusal → Type 0
@@ -30,20 +30,20 @@ refusal_gives : {r : Recorded} {w : World} {log : List ℕ} {f : Refusal} → Sa
 refusal_gives h = record { answer = h.0; world = h.1; log = refl }
 
 -- what is refused is not taken
-not_both : (r : Refusal) → Err r ≡ (Ok tt) → ⊥
+not_both : (r : Refusal) → ◌≡◌ {A = Result (Unit {0}) Refusal} (Err r) (Ok tt) → ⊥
 not_both r q = let z : ◌≡◌ {A = ℕ} 0 1 = cc in omega arith
 
 module _ (w : World) (log : List ℕ) where
   -- ---- what the state says of a tick
 
-  abbrev pub tick_says : Taken
+  abbrev pub tick_says : Result (Unit {0}) Refusal
   tick_says = tick_taken w.started w.ticks w.car_count w.stop_count (length log)
 
-  abbrev said_of : Outcome → Taken → Outcome
-  said_of o (Ok tt) = o
+  abbrev said_of : Outcome → Result (Unit {0}) Refusal → Outcome
+  said_of o (Ok t) = o
   said_of o (Err f) = refused w log f
 
-  said : (o : Outcome) (cs : List Check) (t : Taken) → unless cs Err (Ok tt) ≡ t → unless cs (refused w log) o ≡ said_of o t
+  said : (o : Outcome) (cs : List Check) (t : Result (Unit {0}) Refusal) → unless cs Err (Ok tt) ≡ t → unless cs (refused w log) o ≡ said_of o t
   said o [] t e = rw (← e)
   said o (c ∷ cs) t e = by c.holds (λ h. said o cs t h) e
     where
@@ -52,31 +52,35 @@ module _ (w : World) (log : List ℕ) where
       by true k h = rw (← h)
       by false k h = k h
 
-  tick_said : (used : ℕ) (dt : Float) (t : Taken) → tick_says ≡ t → tick_once w log used dt ≡ said_of (ticked w log used dt) t
+  tick_said : (used : ℕ) (dt : Float) (t : Result (Unit {0}) Refusal) → tick_says ≡ t → tick_once w log used dt ≡ said_of (ticked w log used dt) t
   unfolding tick_once tick_taken
   tick_said used dt t e = said (ticked w log used dt) (checks_of_tick w log) t e
 
   -- a tick that is taken has room
-  has_room_lem : tick_says ≡ (Ok tt) → room_of w ≤ length log
+  has_room_lem : tick_says ≡ Ok tt → room_of w ≤ length log
   unfolding tick_taken room_of
   has_room_lem e = ltb-false (length log) (room_of w) (unless_passed (checks_of_tick w log) not_both e).0.1.1.0
 
   -- ---- what was read
 
-  pub is_refused : {r : Recorded} (serves : List ℕ) {read : Read} {f : Refusal} → read ≡ Read.Refused f → Says r w f → Gives r log (read_by w log serves read)
-  is_refused serves d h = rw d (refusal_gives h)
+  pub is_refused : {r : Recorded} {d : Result Decoded Refusal} {f : Refusal} → d ≡ Err f → Says r w f → Gives r log (read_by w log d)
+  is_refused d h = rw d (refusal_gives h)
+
+  pub is_made : {r : Recorded} {left : List ℕ} {d : Result Decoded Refusal} {e : Decoded} → d ≡ Ok e → Gives r left (made_of w log e.serves e.read)
+      → Gives r left (read_by w log d)
+  is_made d h = rw d h
 
   pub is_changed : {r : Recorded} (serves : List ℕ) {read : Read} {found : Record} {used : ℕ} {c : Changed} → read ≡ Read.Accepted found used → c ≡ change_by w serves found
-      → (r.answer ≡ answer_of c.taken used) × (r.world ≡ c.world) → Gives r log (read_by w log serves read)
+      → (r.answer ≡ answer_of c.taken used) × (r.world ≡ c.world) → Gives r log (made_of w log serves read)
   is_changed serves d e h = rw (d, ← e) (record { answer = h.0; world = h.1; log = refl })
 
   pub tick_refused : {r : Recorded} (serves : List ℕ) {read : Read} {used : ℕ} {dt : Float} {f : Refusal} → read ≡ Read.Tick dt used → tick_says ≡ Err f
-      → Says r w f → Gives r log (read_by w log serves read)
+      → Says r w f → Gives r log (made_of w log serves read)
   tick_refused serves {used = used} {dt = dt} {f = f} d t h = rw (d, tick_said used dt (Err f) t) (refusal_gives h)
 
   pub tick_taken_lem : {r : Recorded} {left : List ℕ} {at : ℕ} (serves : List ℕ) {read : Read} {used : ℕ} {dt : Float} → read ≡ Read.Tick dt used
-      → tick_says ≡ (Ok tt) → r.answer ≡ Ok (record { used = used; written = at }) → r.world ≡ tick_world w dt → Wrote log 0 (tick_words w dt) left at
-      → Gives r left (read_by w log serves read)
+      → tick_says ≡ Ok tt → r.answer ≡ Ok (record { used = used; written = at }) → r.world ≡ tick_world w dt → Wrote log 0 (tick_words w dt) left at
+      → Gives r left (made_of w log serves read)
   unfolding WordsFit
   tick_taken_lem {at = at} serves {used = used} {dt = dt} d t n m h =
       let fits : length (tick_words w dt) ≤ room_of w = words_fit w dt in
@@ -89,7 +93,7 @@ module _ (w : World) (log : List ℕ) where
   unfolding record_of
   is_broken words e h = rw e (refusal_gives h)
 
-  pub is_whole : {r : Recorded} {left : List ℕ} (words : List ℕ) {d : Decoded} → broken w ≡ false → d ≡ decoded words → Gives r left (read_by w log d.serves d.read)
+  pub is_whole : {r : Recorded} {left : List ℕ} (words : List ℕ) {d : Result Decoded Refusal} → broken w ≡ false → d ≡ decoded words → Gives r left (read_by w log d)
       → Gives r left (record_of w words log)
   unfolding record_of
   is_whole words e d h = rw e (rw d at h)

@@ -18,7 +18,6 @@ use record_kinds::{change, take_tick};
 use sorted::sorted_stops;
 use sound::rest_broken;
 use sound_rows::car_broken;
-use std::num::wrapping_add_u64;
 use steps::{lamps_of, line_at};
 use tape::decode;
 use tape_records::Read;
@@ -63,13 +62,6 @@ fn answered(changed: Changed, used: usize) -> Recorded
     }
 }
 
-// A tick's dt, and the words that its record takes.
-#[derive(Clone, Copy)]
-struct Tick {
-    dt: f64,
-    used: usize,
-}
-
 // One record call: refusal 0; every record but the tick; then one tick, as movement.rs and doors.rs have it.
 // The loops stand in one function: between two the world of 5.6 KB would be copied.
 pub fn record(world: World, words: &[u32], log: &mut [u32]) -> Recorded
@@ -79,11 +71,9 @@ pub fn record(world: World, words: &[u32], log: &mut [u32]) -> Recorded
     let mut w = world;
     let cars = w.car_count.min(16);
     let mut broken = rest_broken(w);
-    let mut i: usize = 0;
-    while i < cars {
+    for i in 0..cars {
         let car = w.cars[i];
         broken = broken | car_broken(w.line_count, w.stop_count, car);
-        i += 1;
     }
     if broken {
         return refused(w, Refusal::BrokenWorld);
@@ -93,21 +83,19 @@ pub fn record(world: World, words: &[u32], log: &mut [u32]) -> Recorded
         Ok(decoded) => decoded,
         Err(refusal) => return refused(w, refusal),
     };
-    let tick = match decoded.read {
+    let (dt, words_used) = match decoded.read {
         Read::Accepted(found, used) => return answered(change(w, found, decoded.serves), used),
-        Read::Tick { dt, used } => Tick { dt, used },
+        Read::Tick { dt, used } => (dt, used),
     };
     let taken = take_tick(w.started, w.ticks, w.car_count, w.stop_count, log.len());
     if let Err(refusal) = taken {
         return refused(w, refusal);
     }
     // 3. the tick's word; movement.rs, run: car by car, each on positions already updated in this tick. A car at rest is left alone.
-    let dt = tick.dt;
     let stop_count = w.stop_count;
     let sort = sorted_stops(&w.stops, stop_count);
     let mut to = emit(log, 0, Event::TickMade { tick: w.ticks });
-    i = 0;
-    while i < cars {
+    for i in 0..cars {
         let car = w.cars[i];
         let trip = trip_of(car);
         if is_trip(trip) {
@@ -135,8 +123,8 @@ pub fn record(world: World, words: &[u32], log: &mut [u32]) -> Recorded
             );
             w.cars[i].motion.position = result.position;
             w.cars[i].motion.velocity = result.velocity;
-            w.cars[i].move_count = wrapping_add_u64(car.move_count, told.count);
-            w.total_moves = wrapping_add_u64(w.total_moves, told.count);
+            w.cars[i].move_count = car.move_count.wrapping_add(told.count);
+            w.total_moves = w.total_moves.wrapping_add(told.count);
             w.reposition_distance = distance_by(trip, kind, w.reposition_distance, car, result);
             to = told.at;
             if result.arrived {
@@ -145,12 +133,10 @@ pub fn record(world: World, words: &[u32], log: &mut [u32]) -> Recorded
                 w.cars[i] = arrived;
             }
         }
-        i += 1;
     }
     // 4. doors.rs, run: commands, then the door's tick, car by car; then the hall calls clear
     let mut just_opened = [None; 16];
-    i = 0;
-    while i < cars {
+    for i in 0..cars {
         let car = w.cars[i];
         if has_turn(car) {
             let number = i as u8;
@@ -169,15 +155,14 @@ pub fn record(world: World, words: &[u32], log: &mut [u32]) -> Recorded
             just_opened[i] = opened;
             to = turned.at;
         }
-        i += 1;
     }
     let calls = clear_hall_calls(log, to, just_opened, cars, w.up_calls, w.down_calls);
     w.up_calls = calls.up;
     w.down_calls = calls.down;
-    w.ticks = wrapping_add_u64(w.ticks, 1);
+    w.ticks = w.ticks.wrapping_add(1);
     Recorded {
         answer: Ok(Accepted {
-            used: tick.used,
+            used: words_used,
             written: calls.at,
         }),
         world: w,
