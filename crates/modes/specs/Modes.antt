@@ -1,5 +1,5 @@
 -- What the state refuses of a mode, a manual speed or an enable, and what each does to the world: kinds 6, 7 and B.
-use Rattle.std.specs.Prelude.{Bool, not, List, [], ◌∷◌, ℕ}
+use Rattle.std.specs.Prelude.{Bool, not, List, [], ◌∷◌, ℕ, Float}
 use Rattle.world.specs.World.{car_at}
 use Rattle.world.specs.With.{with_car, with_orders}
 use Rattle.world.specs.declared.World.{World}

@@ -14,8 +14,9 @@ use Rattle.laws.proofs.Bools.{and_left, and_right}
 use Rattle.laws.proofs.Choices.{cases}
 use Rattle.world.proofs.Checks.{Passed, all, first_of, unless_has}
 use Rattle.fields.specs.declared.head.Head.{Head}
+use Rattle.std.specs.Prelude.{Result, Ok, Err}
 use Rattle.tape_records.specs.declared.Decoded.{Decoded}
-use Rattle.tape_records.specs.Answers.{Deed, refused, answer}
+use Rattle.tape_records.specs.Answers.{Deed, answer}
 use Rattle.tape.specs.Tape.{Kind, kind_in, kinds, record_of, decoded}
 use Rattle.tape_loads.specs.LoadRecords.{serves_count, line_record, stop_record, car_record, rider_record}
 use Rattle.tape_orders.specs.OrderRecords.{send_record, mode_record, manual_speed_record, door_command_record, hall_call_record, destination_record, enable_record, tick_record, start_record}
@@ -28,10 +29,10 @@ abbrev of_words : Refusal → Bool
 of_words r = leb 1 (refusal_number r) && leb (refusal_number r) 4
 
 module _ (ws : List ℕ) where
-  abbrev Fine : Decoded → Type 0
-  Fine d = InBounds ws d.read
+  abbrev Fine : Result Decoded Refusal → Type 0
+  Fine = InBounds ws
 
-  refused_in : (r : Refusal) → of_words r ≡ true → Fine (refused r)
+  refused_in : (r : Refusal) → of_words r ≡ true → Fine (Err r)
   refused_in r e =
       (leb-true 1 (refusal_number r) (and_left (leb 1 (refusal_number r)) (leb (refusal_number r) 4) e), leb-true (refusal_number r) 4 (and_right (leb 1 (refusal_number r)) (leb (refusal_number r) 4) e))
 
@@ -70,8 +71,8 @@ module _ (ws : List ℕ) where
       and (λ e. deed (start_record h) refl (λ q. (omega arith, p, e)))
       and end)
     where
-      deed : (d : Deed) → all of_words d.checks ≡ true → (Passed d.checks → Fine d.done) → Fine (answer d)
-      deed d e = unless_has Fine d.checks refused d.done (λ r q. refused_in r (first_of of_words d.checks e q))
+      deed : (d : Deed) → all of_words d.checks ≡ true → (Passed d.checks → Fine (Ok d.done)) → Fine (answer d)
+      deed d e = unless_has Fine d.checks Err (Ok d.done) (λ r q. refused_in r (first_of of_words d.checks e q))
 
 pub in_bounds : Facts
 unfolding Facts decoded

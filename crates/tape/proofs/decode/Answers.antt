@@ -6,7 +6,7 @@ use native.Mathlib.Omega.{arith}
 use lib.ListN.{length}
 use borrow.Author.Rules.{rules}
 use borrow.Author.Tests.{eq-eqb, ne_eqb}
-use Rattle.tape_records.specs.Answers.{refused}
+use Rattle.std.specs.Prelude.{Err}
 use Rattle.tape.specs.Tape.{Kind, kind_in, kinds, record_of, decoded}
 use Rattle.world.specs.declared.refusal.Refusal.TheVariants.{UnknownKind}
 use Rattle.tape.proofs.decode.Goals as goal
@@ -14,7 +14,7 @@ use Rattle.tape.proofs.decode.Goals.{After-head_of-head}
 
 pub returns-then-words-eq0 : goal.returns-then-words-eq0
 unfolding decoded
-returns-then-words-eq0 c = rw (eq-eqb (length c.args.words.now) 0 (omega arith)) c.refused.ensures
+returns-then-words-eq0 c = rw (eq-eqb (length c.args.words.now) 0 (omega arith))
 
 -- no kind of a list is k, which is what the last arm of a match knows
 abbrev NoneOf : ℕ → List Kind → Type 0 → Type 0
@@ -25,7 +25,7 @@ before_all : (k : ℕ) (ts : List Kind) (A : Type 0) → NoneOf k ts A → A
 before_all k [] A r = r
 before_all k (t ∷ ts) A r = (before_all k ts (A × (k ≡ t.number → ⊥)) r).0
 
-unknown : (k : ℕ) (ts : List Kind) (A : Type 0) → NoneOf k ts A → refused UnknownKind ≡ kind_in k ts
+unknown : (k : ℕ) (ts : List Kind) (A : Type 0) → NoneOf k ts A → Err UnknownKind ≡ kind_in k ts
 unknown k [] A r = refl
 unknown k (t ∷ ts) A r =
     rw (ne_eqb k t.number (before_all k ts (A × (k ≡ t.number → ⊥)) r).1) (unknown k ts (A × (k ≡ t.number → ⊥)) r)
@@ -78,4 +78,4 @@ pub returns-in-13 : goal.returns-in-13
 returns-in-13 c = c.decode_start.ensures ∙ known 13 (goal.at.returns-in-13 c).After-head_of-head c.in-13.is
 
 pub returns-in_default : goal.returns-in_default
-returns-in_default c = c.refused-in_default.ensures ∙ unknown _ (kinds c.head_of-head.result c.args.words.now) Unit c.in_default.in_default-own.rest ∙ whole (goal.at.returns-in_default c).After-head_of-head
+returns-in_default c = unknown _ (kinds c.head_of-head.result c.args.words.now) Unit c.in_default.in_default-own.rest ∙ whole (goal.at.returns-in_default c).After-head_of-head

@@ -1,9 +1,7 @@
 -- `tape_loads::serves_outside` meets its contract. Assumes nothing.
 use mathlib.Core.Path.{◌≡◌, refl}
-use Prim.Native.Nat.{◌≤◌, ◌-◌}
 use native.Mathlib.Numerals.{add-one}
 use native.Mathlib.Omega.{arith}
-use borrow.Author.Rules.{rules}
 use Rattle.tape_loads.specs.LoadRecords.{serves_outside}
 use Rattle.tape_loads.proofs.serves_outside.Goals as goal
 

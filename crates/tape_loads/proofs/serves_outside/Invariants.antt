@@ -1,9 +1,6 @@
 -- What the loops keep.
-use mathlib.Core.Path.{◌≡◌, refl}
+use mathlib.Core.Path.{◌≡◌}
 use Prim.Native.Nat.{◌≤◌, ◌-◌}
-use native.Mathlib.Numerals.{add-one}
-use native.Mathlib.Omega.{arith}
-use borrow.Author.Rules.{rules}
 use Rattle.tape_loads.specs.LoadRecords.{serves_outside}
 use Rattle.tape_loads.proofs.serves_outside.Given as goal
 

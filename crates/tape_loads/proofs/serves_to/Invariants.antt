@@ -1,11 +1,7 @@
 -- What the loops keep.
-use mathlib.Core.Path.{◌≡◌, refl}
+use mathlib.Core.Path.{◌≡◌}
 use Prim.Native.Nat.{◌≤◌, ◌-◌}
-use native.Mathlib.Numerals.{add-one}
-use native.Mathlib.Omega.{arith}
-use borrow.Author.Rules.{rules}
 use Rattle.tape_loads.specs.LoadRecords.{serves_to}
-use Rattle.tape_loads.proofs.Serves.{served_below}
 use Rattle.tape_loads.proofs.serves_to.Given as goal
 
 abbrev pub invariant-loop-i : goal.invariant-loop-i

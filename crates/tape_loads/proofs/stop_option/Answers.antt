@@ -1,5 +1,4 @@
 -- `tape_loads::stop_option` meets its contract. Assumes nothing.
-use borrow.Author.Rules.{rules}
 use borrow.Author.Tests.{lt-ltb, le-ltb}
 use Rattle.tape_loads.proofs.stop_option.Goals as goal
 
