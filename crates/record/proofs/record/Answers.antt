@@ -19,7 +19,7 @@ use Rattle.doors_system.proofs.Running.{Runs, same, more, turn_on_lem, door_of_l
 use Rattle.movement_system.specs.Movement.{move_of}
 use Rattle.movement_system.proofs.Moving.{Moves, stops_kept, cars_kept, calls_kept, cleared, doored_after, comes_in, goes_on_lem, stays}
 use Rattle.tick.specs.Tick.{ticked, tick_world, tick_words}
-use Rattle.record.proofs.Giving.{is_broken, is_whole, is_refused, is_changed, tick_refused, tick_taken_lem}
+use Rattle.record.proofs.Giving.{is_broken, is_whole, is_refused, is_made, is_changed, tick_refused, tick_taken_lem}
 use Rattle.record.proofs.record.Goals as goal
 use Rattle.record.proofs.record.Goals.{Else-broken, then-is_trip+then-result, then-is_trip+else-result, else-is_trip, then-line-lt8, else-line-lt8, then-is_loop, else-is_loop, then-asks_work, else-asks_work, then-has_turn, else-has_turn, then-car-ne0, else-car-ne0}
 
@@ -57,21 +57,22 @@ returns-then-broken c = is_broken c.args.world _ _ (looked c.args.world _ c.loop
 
 -- ---- what was read
 
-pub returns-in-Refused : goal.returns-in-Refused
-returns-in-Refused c =
+pub returns-in-Err : goal.returns-in-Err
+returns-in-Err c =
     let w = c.args.world in
-    is_whole w _ _ (whole (goal.at.returns-in-Refused c).Else-broken) c.decode-decoded.ensures (is_refused w _ _ c.in-Refused.is c.refused-in-Refused.ensures)
+    is_whole w _ _ (whole (goal.at.returns-in-Err c).Else-broken) c.decode.ensures (is_refused w _ c.in-Err.is c.refused-in-Err.ensures)
 
 pub returns-in-Accepted : goal.returns-in-Accepted
 returns-in-Accepted c =
     let w = c.args.world in
-    is_whole w _ _ (whole (goal.at.returns-in-Accepted c).Else-broken) c.decode-decoded.ensures (is_changed w _ _ c.in-Accepted.is c.change.ensures c.answered.ensures)
+    is_whole w _ _ (whole (goal.at.returns-in-Accepted c).Else-broken) c.decode.ensures
+    (is_made w _ c.in-Ok.is (is_changed w _ _ c.in-Accepted.is c.change.ensures c.answered.ensures))
 
-pub returns-in-Refused-taken : goal.returns-in-Refused-taken
-returns-in-Refused-taken c =
+pub returns-in-Err-taken : goal.returns-in-Err-taken
+returns-in-Err-taken c =
     let w = c.args.world in
-    is_whole w _ _ (whole (goal.at.returns-in-Refused-taken c).Else-broken) c.decode-decoded.ensures
-    (tick_refused w _ _ c.in-Tick.is (sym c.take_tick-taken.ensures ∙ c.in-Refused-taken.is) c.refused-in-Refused-taken.ensures)
+    is_whole w _ _ (whole (goal.at.returns-in-Err-taken c).Else-broken) c.decode.ensures
+    (is_made w _ c.in-Ok.is (tick_refused w _ _ c.in-Tick.is (sym c.take_tick-taken.ensures ∙ c.in-Err-taken.is) c.refused-in-Err-taken.ensures))
 
 -- ---- the moves
 
@@ -91,7 +92,7 @@ loop-i-2-preserved c =
     elim c.if-is_trip.branch [
       | then-is_trip+then-result u ↦ (
         so_far,
-        comes_in (c.in-Tick.dt) _ s.w c.if-is_trip.w _ s.log _ c.if-is_trip.log c.emit-to.result s.i n s.to c.if-is_trip.to trip.result u.if-line-lt8.kind u.if-is_loop.leader u.landing-result.result u.if-asks_work.lamps u.tell-told.result u.wrapping_add_u64.result u.wrapping_add_u64-then-is_trip.result u.distance_by.result u.come-arrived.result s.invariant.1 refl trip.ensures (rw c.is_trip.ensures at u.if-is_trip.true)
+        comes_in (c.in-Tick.dt) _ s.w c.if-is_trip.w _ s.log _ c.if-is_trip.log c.emit-to.result s.i n s.to c.if-is_trip.to trip.result u.if-line-lt8.kind u.if-is_loop.leader u.landing-result.result u.if-asks_work.lamps u.tell-told.result _ _ u.distance_by.result u.come-arrived.result s.invariant.1 refl trip.ensures (rw c.is_trip.ensures at u.if-is_trip.true)
             (elim u.if-line-lt8.branch [ then-line-lt8 z ↦ inl (z.if-line-lt8.true, z.kind-is) | else-line-lt8 z ↦ inr (z.if-line-lt8.false, z.kind-is) ])
             (elim u.if-is_loop.branch [ then-is_loop z ↦ inr (z.leader-is ∙ z.leader_of-leader.ensures) | else-is_loop z ↦ inl (rw u.is_loop.ensures at z.if-is_loop.false) ])
             u.landing-result.ensures
@@ -99,13 +100,13 @@ loop-i-2-preserved c =
               | then-asks_work z ↦ inr (rw u.asks_work.ensures at z.if-asks_work.true, z.lamps-is ∙ z.work_of-lamps.ensures)
               | else-asks_work z ↦ inl (rw u.asks_work.ensures at z.if-asks_work.false, z.lamps-is ∙ u.lamps_of-lamps.ensures)
             ])
-            (u.tell-told.ensures order) u.wrapping_add_u64.ensures.value u.wrapping_add_u64-then-is_trip.ensures.value u.distance_by.ensures
+            (u.tell-told.ensures order) refl refl u.distance_by.ensures
             u.if-result.true u.come-arrived.ensures u.w-is u.log-is u.to-is,
         s.invariant.2,
       )
       | then-is_trip+else-result u ↦ (
         so_far,
-        goes_on_lem (c.in-Tick.dt) _ s.w c.if-is_trip.w _ s.log _ c.if-is_trip.log c.emit-to.result s.i n s.to c.if-is_trip.to trip.result u.if-line-lt8.kind u.if-is_loop.leader u.landing-result.result u.if-asks_work.lamps u.tell-told.result u.wrapping_add_u64.result u.wrapping_add_u64-then-is_trip.result u.distance_by.result s.invariant.1 refl trip.ensures (rw c.is_trip.ensures at u.if-is_trip.true)
+        goes_on_lem (c.in-Tick.dt) _ s.w c.if-is_trip.w _ s.log _ c.if-is_trip.log c.emit-to.result s.i n s.to c.if-is_trip.to trip.result u.if-line-lt8.kind u.if-is_loop.leader u.landing-result.result u.if-asks_work.lamps u.tell-told.result _ _ u.distance_by.result s.invariant.1 refl trip.ensures (rw c.is_trip.ensures at u.if-is_trip.true)
             (elim u.if-line-lt8.branch [ then-line-lt8 z ↦ inl (z.if-line-lt8.true, z.kind-is) | else-line-lt8 z ↦ inr (z.if-line-lt8.false, z.kind-is) ])
             (elim u.if-is_loop.branch [ then-is_loop z ↦ inr (z.leader-is ∙ z.leader_of-leader.ensures) | else-is_loop z ↦ inl (rw u.is_loop.ensures at z.if-is_loop.false) ])
             u.landing-result.ensures
@@ -113,7 +114,7 @@ loop-i-2-preserved c =
               | then-asks_work z ↦ inr (rw u.asks_work.ensures at z.if-asks_work.true, z.lamps-is ∙ z.work_of-lamps.ensures)
               | else-asks_work z ↦ inl (rw u.asks_work.ensures at z.if-asks_work.false, z.lamps-is ∙ u.lamps_of-lamps.ensures)
             ])
-            (u.tell-told.ensures order) u.wrapping_add_u64.ensures.value u.wrapping_add_u64-then-is_trip.ensures.value u.distance_by.ensures
+            (u.tell-told.ensures order) refl refl u.distance_by.ensures
             u.if-result.false u.w-is u.log-is u.to-is,
         s.invariant.2,
       )
@@ -124,7 +125,7 @@ loop-i-2-preserved c =
 
 pub loop-i-3-init : goal.loop-i-3-init
 unfolding run_to
-loop-i-3-init c = (search rules, record { left = refl; opens = rw refl; wrote = wrote_none }, c.loop-i-2.invariant.2)
+loop-i-3-init c = (search rules, record { left = refl; opens = refl; wrote = wrote_none }, c.loop-i-2.invariant.2)
 
 pub loop-i-3-preserved : goal.loop-i-3-preserved
 loop-i-3-preserved c =
@@ -160,6 +161,6 @@ returns c =
     let d : min c.min-cars.result 16 ≡ min s.w.car_count 16 = omega (arith, n, cars_kept k) in
     let r = ended (runs_at t.invariant.1 f) (cleared t.just_opened (calls_kept t.invariant.1) d c.clear_hall_calls-calls.ensures) in
     let x = doored_after c.in-Tick.dt w k r.0 r.1 in
-    is_whole w _ _ (whole (goal.at.returns c).Else-broken) c.decode-decoded.ensures
-    (tick_taken_lem w _ _ c.in-Tick.is (sym c.take_tick-taken.ensures ∙ c.in_default.is) refl
-    (rw c.wrapping_add_u64-2.ensures.value (ap ticked x.0)) (also c.emit-to.ensures x.1))
+    is_whole w _ _ (whole (goal.at.returns c).Else-broken) c.decode.ensures
+    (is_made w _ c.in-Ok.is (tick_taken_lem w _ _ c.in-Tick.is (sym c.take_tick-taken.ensures ∙ c.in_default.is) refl
+    (ap ticked x.0) (also c.emit-to.ensures x.1)))

@@ -26,19 +26,10 @@ use Rattle.record.proofs.record.Given as goal
 abbrev pub invariant-loop-i : goal.invariant-loop-i
 invariant-loop-i l = (l.i ≤ l.cars) × (l.broken ≡ (l.initial.broken || cars_broken l.w l.i))
 
-abbrev pub decreases-loop-i : goal.decreases-loop-i
-decreases-loop-i l = l.cars - l.i
-
 -- the cars' moves
 abbrev pub invariant-loop-i-2 : goal.invariant-loop-i-2
 invariant-loop-i-2 l = (l.i ≤ l.cars) × Moves (move_of l.dt) l.initial.w l.initial.log l.initial.to l.i l.w l.log l.to × (l.cars ≤ 16)
 
-abbrev pub decreases-loop-i-2 : goal.decreases-loop-i-2
-decreases-loop-i-2 l = l.cars - l.i
-
 -- the doors, from where the moves ended
 abbrev pub invariant-loop-i-3 : goal.invariant-loop-i-3
 invariant-loop-i-3 l = (l.i ≤ l.cars) × Runs door_of l.initial.w l.initial.log l.initial.to l.i l.w l.just_opened l.log l.to × (l.cars ≤ 16)
-
-abbrev pub decreases-loop-i-3 : goal.decreases-loop-i-3
-decreases-loop-i-3 l = l.cars - l.i

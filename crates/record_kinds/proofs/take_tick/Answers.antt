@@ -7,8 +7,9 @@ use native.Mathlib.Nat.{mul-le-mul}
 use native.Mathlib.Omega.{arith}
 use borrow.Author.Rules.{rules}
 use borrow.Author.Tests.{lt-ltb, le-ltb, le-leb, lt-leb}
+use Rattle.world.specs.declared.refusal.Refusal.{Refusal}
 use Rattle.world.specs.declared.refusal.Refusal.TheVariants.{LogShort}
-use Rattle.std.specs.Prelude.{Ok, Err}
+use Rattle.std.specs.Prelude.{Result, Ok, Err}
 use Rattle.tick.specs.Room.{room_for}
 use Rattle.record_kinds.specs.Kinds.{tick_taken}
 use Rattle.record_kinds.proofs.take_tick.Goals as goal
@@ -36,7 +37,7 @@ unfolding tick_taken
 returns-then-ticks-ge268435456 c = rw (c.if-not-started.false, le-leb (2 ^ 28) c.args.ticks c.if-ticks-ge268435456.true)
 
 -- what was looked for before the room is not there
-passed : (c : After-min-2) (r : Taken) → r ≡ cond (ltb c.args.room (room_for c.args.cars c.args.stops)) (Refused LogShort) Accepted
+passed : (c : After-min-2) (r : Result (Unit {0}) Refusal) → r ≡ cond (ltb c.args.room (room_for c.args.cars c.args.stops)) (Err LogShort) (Ok tt)
     → r ≡ tick_taken c.args.started c.args.ticks c.args.cars c.args.stops c.args.room
 unfolding tick_taken
 passed c r e = rw (c.if-not-started.false, lt-leb (2 ^ 28) c.args.ticks c.if-ticks-ge268435456.false) e
