@@ -21,13 +21,13 @@ use Rattle.sound.proofs.Unbroken.{Counts, counts_fit}
 use Rattle.steps.specs.Steps.{is_manual}
 use Rattle.tape_orders.specs.OrderRecords.{mode_of}
 use Rattle.tape.specs.Tape.{Kind, kind_in, kinds, record_of, decoded}
-use Rattle.tape_records.specs.Answers.{refused}
+use Rattle.std.specs.Prelude.{Result, Ok, Err}
 use Rattle.tape_loads.specs.LoadRecords.{line_record}
 use Rattle.fields.specs.Fields.{head_of}
 use Rattle.layout.specs.Layout.{kind_of, n_of, v_of}
 use Rattle.tape_records.specs.declared.Decoded.{Decoded}
 use Rattle.tape_records.specs.declared.Read.{Read}
-use Rattle.tape_records.specs.declared.Read.TheVariants.{Accepted, Refused, Tick}
+use Rattle.tape_records.specs.declared.Read.TheVariants.{Accepted, Tick}
 use Rattle.tape_records.specs.declared.Record.{Record}
 use Rattle.tape_records.specs.declared.Record.TheVariants as Record
 use Rattle.tick.specs.Counters.{Low}
@@ -52,7 +52,6 @@ Says h (Record.Enable car enabled) = Unit {0}
 Says h Record.Start = Unit {0}
 
 abbrev pub Reads : ℕ → Read → Type 0
-Reads h (Refused r) = Unit {0}
 Reads h (Accepted read used) = (eqb (kind_of h) 12 ≡ false) × Says h read
 Reads h (Tick dt used) = eqb (kind_of h) 12 ≡ true
 
@@ -64,22 +63,26 @@ not_manual v e =
     Tame : ServiceMode → Type 0
     Tame m = is_manual m ≡ false
 
-abbrev Each : (Read → Type 0) → ℕ → List Kind → Type 0
-Each P k [] = Unit {0}
-Each P k (t ∷ ts) = (eqb k t.number ≡ true → P t.deed.done.read) × Each P k ts
+abbrev pub Brings : ℕ → Result Decoded Refusal → Type 0
+Brings h (Err r) = Unit {0}
+Brings h (Ok d) = Reads h d.read
 
-kind_reads : (P : Read → Type 0) (k : ℕ) (ts : List Kind) → ((r : Refusal) → P (Refused r)) → Each P k ts → P (kind_in k ts).read
+abbrev Each : (Result Decoded Refusal → Type 0) → ℕ → List Kind → Type 0
+Each P k [] = Unit {0}
+Each P k (t ∷ ts) = (eqb k t.number ≡ true → P (Ok t.deed.done)) × Each P k ts
+
+kind_reads : (P : Result Decoded Refusal → Type 0) (k : ℕ) (ts : List Kind) → ((r : Refusal) → P (Err r)) → Each P k ts → P (kind_in k ts)
 kind_reads P k [] r e = r _
 kind_reads P k (t ∷ ts) r e =
-    cases (λ (x : Decoded). P x.read) (eqb k t.number)
-    (λ h. unless_has (λ (x : Decoded). P x.read) t.deed.checks refused t.deed.done (λ f q. r f) (λ q. e.0 h))
+    cases P (eqb k t.number)
+    (λ h. unless_has P t.deed.checks Err (Ok t.deed.done) (λ f q. r f) (λ q. e.0 h))
     (λ h. kind_reads P k ts r e.1)
 
-pub decoded_reads : (ws : List ℕ) → Reads (get_or ws 0 0) (decoded ws).read
+pub decoded_reads : (ws : List ℕ) → Brings (get_or ws 0 0) (decoded ws)
 unfolding decoded record_of line_record
 decoded_reads ws =
-    both (λ (x : Decoded). Reads h x.read) (eqb (length ws) 0) tt
-    (kind_reads (Reads h) (kind_of h) (kinds (head_of h) ws) (λ r. tt) (no 1 refl, (no 2 refl, (no 3 refl, (no 4 refl, (no 5 refl, ((λ e. (not_tick 6 refl e, λ q. not_manual (v_of h) (mine e q))), (no 7 refl, (no 8 refl, (no 9 refl, (no 10 refl, (no 11 refl, ((λ e. e), (no 13 refl, tt))))))))))))))
+    both (Brings h) (eqb (length ws) 0) tt
+    (kind_reads (Brings h) (kind_of h) (kinds (head_of h) ws) (λ r. tt) (no 1 refl, (no 2 refl, (no 3 refl, (no 4 refl, (no 5 refl, ((λ e. (not_tick 6 refl e, λ q. not_manual (v_of h) (mine e q))), (no 7 refl, (no 8 refl, (no 9 refl, (no 10 refl, (no 11 refl, ((λ e. e), (no 13 refl, tt))))))))))))))
   where
     h : ℕ
     h = get_or ws 0 0

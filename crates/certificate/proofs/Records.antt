@@ -28,6 +28,8 @@ use Rattle.world.specs.declared.refusal.Refusal.{Refusal}
 use Rattle.world.specs.declared.refusal.Refusal.TheVariants.{BrokenWorld}
 use Rattle.tape.specs.Tape.{decoded}
 use Rattle.layout.specs.Layout.{kind_of}
+use Rattle.std.specs.Prelude.{Result, Ok, Err}
+use Rattle.tape_records.specs.declared.Decoded.{Decoded}
 use Rattle.tape_records.specs.declared.Read.{Read}
 use Rattle.tape_records.specs.declared.Read.TheVariants as Read
 use Rattle.tape_records.specs.declared.Record.{Record}
@@ -50,7 +52,7 @@ use Rattle.laws.proofs.Choices.{both, cases}
 use Rattle.world.proofs.Checks.{Passed, unless_has}
 use Rattle.tick.proofs.Proved.{words_fit}
 use Rattle.record_kinds.specs.Kinds.{change_by}
-use Rattle.record.specs.Record.{Outcome, is_accepted, accepted, refused, changed, checks_of_tick, ticked, tick_once, read_by, record_of}
+use Rattle.record.specs.Record.{Outcome, is_accepted, accepted, refused, changed, checks_of_tick, ticked, tick_once, made_of, read_by, record_of}
 use Rattle.record.specs.Calls.{Call, outcome, next, head_word}
 use Rattle.certificate.specs.Certificate.{is_tick, position_of, told}
 use Rattle.certificate.specs.Manual.{puts_in_manual}
@@ -58,7 +60,7 @@ use Rattle.certificate.proofs.Watch.{open_after, told_none}
 use Rattle.certificate.proofs.Turns.{Sound, idle, stopped, moving, repositioning, opening, loading, closing, Fit}
 use Rattle.certificate.proofs.Holding.{Held, Summed, same?, held_step}
 use Rattle.certificate.proofs.Ticking.{tick_ticks, tick_sums}
-use Rattle.certificate.proofs.Reading.{Says, Reads, decoded_reads, Unbroken, unbroken}
+use Rattle.certificate.proofs.Reading.{Says, Reads, Brings, decoded_reads, Unbroken, unbroken}
 
 -- ---- what a record that is no tick leaves
 
@@ -255,17 +257,20 @@ module _ (w : World) (c : Call) (j : List ℕ) (h : Sums w j) (used : ℕ) (serv
       (λ n q e p i f. record { sound = f.sound; tame = f.tame }) refl
   changed_kept Record.Start t s = plain w c j h used (Changes.start_checks w) _ t (λ q e. (h, λ n k p. k))
 
-read_kept : (w : World) (c : Call) (j : List ℕ) → Sums w j → Unbroken w → (serves : List ℕ) (r : Read) → Reads (head_word c) r
-    → Gives w c j (read_by w c.log serves r)
-read_kept w c j h u serves (Read.Refused r) s = refuses w c j h 0 r
-read_kept w c j h u serves (Read.Accepted read used) s = changed_kept w c j h used serves read s.0 s.1
-read_kept w c j h u serves (Read.Tick dt used) s = tick_kept w c j h used dt u s
+made_kept : (w : World) (c : Call) (j : List ℕ) → Sums w j → Unbroken w → (serves : List ℕ) (r : Read) → Reads (head_word c) r
+    → Gives w c j (made_of w c.log serves r)
+made_kept w c j h u serves (Read.Accepted read used) s = changed_kept w c j h used serves read s.0 s.1
+made_kept w c j h u serves (Read.Tick dt used) s = tick_kept w c j h used dt u s
+
+read_kept : (w : World) (c : Call) (j : List ℕ) → Sums w j → Unbroken w → (d : Result Decoded Refusal) → Brings (head_word c) d → Gives w c j (read_by w c.log d)
+read_kept w c j h u (Err r) s = refuses w c j h 0 r
+read_kept w c j h u (Ok d) s = made_kept w c j h u d.serves d.read s
 
 record_kept : (w : World) (c : Call) (j : List ℕ) → Sums w j → Gives w c j (record_of w c.words c.log)
 unfolding record_of
 record_kept w c j h =
     cases (Gives w c j) (broken w) (λ b. refuses w c j h 0 BrokenWorld)
-    (λ b. read_kept w c j h (unbroken w b) (decoded c.words).serves (decoded c.words).read (decoded_reads c.words))
+    (λ b. read_kept w c j h (unbroken w b) (decoded c.words) (decoded_reads c.words))
 
 pub call_kept : (w : World) (c : Call) (j : List ℕ) → Sums w j → Kept w c j
 unfolding outcome

@@ -22,7 +22,7 @@ use Rattle.tape.specs.Tape as Tape
 use Rattle.tape.specs.Tape.{Kind, kinds, kind_in, decoded}
 use Rattle.fields.specs.Fields.{head_of}
 use Rattle.layout.specs.Layout.{kind_of}
-use Rattle.tape.specs.Facts.{Facts, InBounds}
+use Rattle.tape.specs.Facts.{Facts, InBounds, ReadInBounds}
 use Rattle.tape_records.specs.declared.Decoded.{Decoded}
 use Rattle.tape_records.specs.declared.Read.{Read}
 use Rattle.tape_records.specs.declared.Read.TheVariants as Read
@@ -44,8 +44,8 @@ use Rattle.tick.specs.Room.{room_of, WordsFit}
 use Rattle.tick.proofs.Proved.{words_fit}
 use Rattle.record_kinds.specs.Kinds.{change_by}
 use Rattle.record.specs.Record.{Answer}
-use Rattle.std.specs.Prelude.{Ok, Err}
-use Rattle.record.specs.Record.{Outcome, is_accepted, accepted, refused, changed, checks_of_tick, ticked, tick_once, read_by, record_of}
+use Rattle.std.specs.Prelude.{Result, Ok, Err}
+use Rattle.record.specs.Record.{Outcome, is_accepted, accepted, refused, changed, checks_of_tick, ticked, tick_once, made_of, read_by, record_of}
 use Rattle.conditions.specs.Conditions.{Kept, FirstCondition}
 
 -- ---- the checks of a call, in the order in which the definition makes them
@@ -66,7 +66,6 @@ state_checks w serves (Enable car enabled) = order_checks w car
 state_checks w serves Start = start_checks w
 
 abbrev pub behind : World → List ℕ → List ℕ → Read → List Check
-behind w log serves (Read.Refused r) = check r true ∷ []
 behind w log serves (Read.Accepted read used) = state_checks w serves read
 behind w log serves (Read.Tick dt used) = checks_of_tick w log
 
@@ -165,12 +164,12 @@ module _ (w : World) (words lent : List ℕ) where
   -- ---- what was read
 
   abbrev Fits : Record → ℕ → Type 0
-  Fits read used = InBounds words (Read.Accepted read used)
+  Fits read used = ReadInBounds words (Read.Accepted read used)
 
   some_fine : {cs : List Check} {o : Outcome} {f g : Type 0} → (g → f) → Fine cs f o → Fine cs g o
   some_fine u h = record { answers = h.answers; kept = λ x. h.kept (u x) }
 
-  fine_tick : (used : ℕ) (dt : Float) → Fine (checks_of_tick w lent) (InBounds words (Read.Tick dt used)) (tick_once w lent used dt)
+  fine_tick : (used : ℕ) (dt : Float) → Fine (checks_of_tick w lent) (ReadInBounds words (Read.Tick dt used)) (tick_once w lent used dt)
   unfolding tick_once Answers room_of
   fine_tick used dt = record {
     answers = unless_answers (λ (o : Outcome). o.answer) (checks_of_tick w lent) [] (refused w lent) (ticked w lent used dt) (λ r. refl) refl;
@@ -200,21 +199,24 @@ module _ (w : World) (words lent : List ℕ) where
       some_fine (λ g. (g.0, g.1)) (fine_changed used (order_checks w car) (with_car w car (marked (car_at w.cars car) enabled)))
   fine_taken used serves Start = some_fine (λ g. (g.0, g.1)) (fine_changed used (start_checks w) (with_start w))
 
-  fine_read : (serves : List ℕ) (read : Read) → Fine (behind w lent serves read) (InBounds words read) (read_by w lent serves read)
+  fine_read : (serves : List ℕ) (read : Read) → Fine (behind w lent serves read) (ReadInBounds words read) (made_of w lent serves read)
   unfolding Answers
-  fine_read serves (Read.Refused r) = record { answers = inl (refl, refl); kept = λ g. refused_kept r }
   fine_read serves (Read.Accepted read used) = fine_taken used serves read
   fine_read serves (Read.Tick dt used) = fine_tick used dt
 
   -- ---- the tape's checks before it
 
-  abbrev answered : Decoded → Outcome
-  answered d = read_by w lent d.serves d.read
+  abbrev answered : Result Decoded Refusal → Outcome
+  answered d = read_by w lent d
 
-  tape_unless : (cs ds : List Check) (d : Decoded) → Answers ds (answered d).answer → Answers (cs ++ ds) (answered (unless cs TapeAnswers.refused d)).answer
-  tape_unless cs ds d = unless_answers (λ (x : Decoded). (answered x).answer) cs ds TapeAnswers.refused d (λ r. refl)
+  kept_by : (d : Result Decoded Refusal) → InBounds words d → Kept w words lent (answered d)
+  kept_by (Err r) g = refused_kept r
+  kept_by (Ok d) g = (fine_read d.serves d.read).kept g
 
-  either : (b : Bool) (cs ds : List Check) (c d : Decoded) →
+  tape_unless : (cs ds : List Check) (d : Result Decoded Refusal) → Answers ds (answered d).answer → Answers (cs ++ ds) (answered (unless cs Err d)).answer
+  tape_unless cs ds d = unless_answers (λ (x : Result Decoded Refusal). (answered x).answer) cs ds Err d (λ r. refl)
+
+  either : (b : Bool) (cs ds : List Check) (c d : Result Decoded Refusal) →
       Answers cs (answered c).answer → Answers ds (answered d).answer → Answers (cond b cs ds) (answered (cond b c d)).answer
   either true cs ds c d g h = g
   either false cs ds c d g h = h
@@ -224,7 +226,7 @@ module _ (w : World) (words lent : List ℕ) where
   in_kinds k [] = inl (refl, refl)
   in_kinds k (t ∷ ts) =
       either (eqb k t.number) (t.deed.checks ++ behind w lent t.deed.done.serves t.deed.done.read) (checks_in w lent k ts) (TapeAnswers.answer t.deed) (kind_in k ts)
-      (tape_unless t.deed.checks _ t.deed.done (fine_read t.deed.done.serves t.deed.done.read).answers)
+      (tape_unless t.deed.checks _ (Ok t.deed.done) (fine_read t.deed.done.serves t.deed.done.read).answers)
       (in_kinds k ts)
 
 pub on_its_condition : OnItsCondition
@@ -239,5 +241,4 @@ on_its_condition w words log =
 pub first_condition : FirstCondition
 unfolding FirstCondition record_of Facts
 first_condition w words log =
-    let d = decoded words in
-    both (Kept w words log) (broken w) (refused_kept w words log BrokenWorld) ((fine_read w words log d.serves d.read).kept (in_bounds words))
+    both (Kept w words log) (broken w) (refused_kept w words log BrokenWorld) (kept_by w words log (decoded words) (in_bounds words))

@@ -12,7 +12,7 @@ use Rattle.world.specs.World.{car_at}
 use Rattle.world.specs.declared.World.{World}
 use Rattle.world.specs.declared.ElevatorPhase.TheVariants.{Idle, Stopped}
 use Rattle.conditions.specs.Refusals.{kind, n, s, v, served, RawZero, phase_of, phase_car_of, aboard_of, top_of, million, thousand, ten, one, NotInSize, NotFromZero, NotAboveZero, CountOutside, count_outside, CutShort, line_cut, float_cut, car_cut, rider_cut, FieldOutside, n_set, s_set, v_set, ticks_set, top_set, linear_set, speed_set, line_code, v_code, mode_code, command_code, phase_code, stop_number, served_number, route_number, line_number, car_line_number, rider_number, phase_car_number, phase_car_set, aboard_number, FloatOutside, position_outside, circumference_outside, headway_outside, velocity_outside, speed_outside, max_outside, acceleration_outside, deceleration_outside, factor_outside, dt_outside, NotNext, stop_above, line_above, car_above, rider_above, stop_below, line_below, car_below, NotLoaded, car_named, stop_named, line_named, served_named, route_named, phase_car_named, aboard_named, CannotGo, car_disabled, car_busy, QueueFull, commands_full, destinations_full, LastTick, last_made, LogShort, log_short, NotNow, load_after, order_before, second_start}
-use Rattle.conditions.proofs.Deciding.{most, ◌and◌, Some}
+use Rattle.conditions.proofs.Deciding.{most, ◌and◌, AnyBelow}
 
 -- ---- a table by kind; what is not in it asks nothing
 
@@ -93,7 +93,7 @@ RiderAsks words =
 abbrev pub FieldAsks : List ℕ → ℕ → Type 0
 FieldAsks words k =
     pick k
-    (row 1 ((((7 < n words) ⊎ (1 < s words)) ⊎ ((s words ≡ 0) × (RawZero words 1 × RawZero words 3 → ⊥))) ⊎ Some (served words) (λ i. 63 < get_or words (5 + i) 0))
+    (row 1 ((((7 < n words) ⊎ (1 < s words)) ⊎ ((s words ≡ 0) × (RawZero words 1 × RawZero words 3 → ⊥))) ⊎ AnyBelow (served words) (λ i. 63 < get_or words (5 + i) 0))
     ∷ row 2 (((n words ≡ 0 → ⊥) ⊎ (63 < s words)) ⊎ (v words ≡ 0 → ⊥))
     ∷ row 3 ((7 < s words) ⊎ (v words ≡ 0 → ⊥))
     ∷ row 4 ((((n words ≡ 0 → ⊥) ⊎ (127 < s words)) ⊎ ((63 < v words) × (v words ≡ 65535 → ⊥))) ⊎ RiderAsks words)
@@ -305,7 +305,7 @@ next_of_rider w words K x = rider_above K x
 abbrev pub LoadedAsks : World → List ℕ → ℕ → Type 0
 LoadedAsks w words k =
     pick k
-    (row 1 (Some (served words) (λ i. w.stop_count ≤ get_or words (5 + i) 0))
+    (row 1 (AnyBelow (served words) (λ i. w.stop_count ≤ get_or words (5 + i) 0))
     ∷ row 3 (w.line_count ≤ s words)
     ∷ row 4 ((((v words ≡ 65535 → ⊥) × (w.stop_count ≤ v words)) ⊎ ((1 ≤ phase_of words) × (phase_of words ≤ 3) × (w.car_count ≤ phase_car_of words))) ⊎ ((aboard_of words ≡ 255 → ⊥) × (w.car_count ≤ aboard_of words)))
     ∷ row 5 ((w.car_count ≤ n words) ⊎ (w.stop_count ≤ s words))

@@ -26,7 +26,7 @@ use Rattle.world.specs.declared.RiderPhase.TheVariants.{Waiting, Boarding, Ridin
 use Rattle.std.specs.declared.option.Option.{Option}
 use Rattle.std.specs.declared.option.Option.TheVariants.{None, Some}
 use Rattle.conditions.specs.Refusals.{Broken, stops_above, lines_above, cars_above, riders_above, list_above, ticks_above, destinations_above, commands_above, total_high, moves_high, listed_unloaded, line_unloaded, moving_unloaded, repositioning_unloaded, target_unloaded, queued_unloaded, route_unloaded, boarding_unloaded, riding_unloaded, exiting_unloaded, aboard_unloaded, up_unloaded, down_unloaded}
-use Rattle.conditions.proofs.Deciding.{Decides, less, most, through, never, ◌or◌, Some, any}
+use Rattle.conditions.proofs.Deciding.{Decides, less, most, through, never, ◌or◌, AnyBelow, any}
 
 -- ---- numbers that a phase or an option holds
 
@@ -184,7 +184,7 @@ calls_decided stops calls = record {
 -- ---- a line, a car, a rider
 
 abbrev pub InLine : ℕ → Line → Type 0
-InLine stops l = (64 < l.serves_count) ⊎ Some l.serves_count (λ i. stops ≤ get_or l.serves i 0)
+InLine stops l = (64 < l.serves_count) ⊎ AnyBelow l.serves_count (λ i. stops ≤ get_or l.serves i 0)
 
 pub line_decided : (stops : ℕ) (l : Line) → Decides (InLine stops l) (line_broken stops l)
 unfolding line_broken
@@ -194,7 +194,7 @@ abbrev InCar : ℕ → ℕ → Car → Type 0
 InCar lines stops c =
     ((((((8 < c.destination_count) ⊎ (8 < c.command_count)) ⊎ (2 ^ 48 ≤ c.move_count)) ⊎ (lines ≤ c.line)) ⊎ Held stops (InPhase c.phase))
     ⊎ Held stops (λ stop. c.target_stop ≡ Some stop))
-    ⊎ Some c.destination_count (λ i. stops ≤ get_or c.destination_queue i 0)
+    ⊎ AnyBelow c.destination_count (λ i. stops ≤ get_or c.destination_queue i 0)
 
 car_row_decided : (lines stops : ℕ) (c : Car) → Decides (InCar lines stops c) (car_broken lines stops c)
 unfolding car_broken
@@ -215,13 +215,13 @@ rider_decided stops cars r = stop_decided stops r.destination or rider_phase_dec
 
 module _ (w : World) where
   abbrev AnyLine : Type 0
-  AnyLine = Some w.line_count (λ i. InLine w.stop_count (line_at w.lines i))
+  AnyLine = AnyBelow w.line_count (λ i. InLine w.stop_count (line_at w.lines i))
 
   abbrev AnyCar : Type 0
-  AnyCar = Some w.car_count (λ i. InCar w.line_count w.stop_count (car_at w.cars i))
+  AnyCar = AnyBelow w.car_count (λ i. InCar w.line_count w.stop_count (car_at w.cars i))
 
   abbrev AnyRider : Type 0
-  AnyRider = Some w.rider_count (λ i. InRow w.stop_count w.car_count (rider_at w.riders i))
+  AnyRider = AnyBelow w.rider_count (λ i. InRow w.stop_count w.car_count (rider_at w.riders i))
 
   abbrev AnyCall : ℕ → Type 0
   AnyCall calls = (stop : ℕ) × (w.stop_count ≤ stop) × (called calls stop ≡ true)

@@ -40,7 +40,7 @@ use Rattle.record_kinds.specs.PaperRoom.{PaperRoom}
 use Rattle.record_kinds.proofs.Proved.{paper_room}
 use Rattle.conditions.specs.Refusals.{kind, n, s, v, served, RawZero, phase_of, phase_car_of, aboard_of, top_of, million, thousand, ten, one, NotInSize, size_not_finite, size_above, NotFromZero, from_not_finite, from_below, from_above, NotAboveZero, above_not_finite, above_below, above_above, Broken, destinations_above, commands_above, NoKind, kind_0, kind_above, stop_number, line_number, rider_number, route_number, NotNow, load_after, order_before, second_start, CountOutside, CutShort, FieldOutside, FloatOutside, NotNext, NotLoaded, CannotGo, QueueFull, LastTick, LogShort, place, Place, Verdict}
 use Rattle.conditions.proofs.Answering.{behind, checks_in}
-use Rattle.conditions.proofs.Deciding.{Decides, less, most, same, flag, clear, fails, through, never, non, ◌and◌, ◌or◌, past, choice, Some, any}
+use Rattle.conditions.proofs.Deciding.{Decides, less, most, same, flag, clear, fails, through, never, non, ◌and◌, ◌or◌, past, choice, AnyBelow, any}
 use Rattle.conditions.proofs.Reading.{Read, done, silent, asked, sure}
 use Rattle.conditions.proofs.BrokenWorld.{InLine, line_decided, broken_decided}
 use Rattle.conditions.proofs.Asking as Ask
@@ -140,9 +140,9 @@ unfolding serves_outside any_to
 serves_any words zero = refl
 serves_any words (suc i) = rw (serves_any words i)
 
-serves_decided : (words : List ℕ) (count : ℕ) → Decides (Some count (λ i. 63 < get_or words (5 + i) 0)) (serves_outside words count)
+serves_decided : (words : List ℕ) (count : ℕ) → Decides (AnyBelow count (λ i. 63 < get_or words (5 + i) 0)) (serves_outside words count)
 serves_decided words count =
-    subst⁻¹ (λ (b : Bool). Decides (Some count (λ i. 63 < get_or words (5 + i) 0)) b) (serves_any words count) (any (λ i. less 63 (get_or words (5 + i) 0)) count)
+    subst⁻¹ (λ (b : Bool). Decides (AnyBelow count (λ i. 63 < get_or words (5 + i) 0)) b) (serves_any words count) (any (λ i. less 63 (get_or words (5 + i) 0)) count)
 
 serves_length : (words : List ℕ) (count : ℕ) → length (serves_to words count) ≡ 64
 unfolding serves_to
@@ -168,14 +168,14 @@ unfolding serves_count
 few words h = count_small (v words) (fails (less 64 (v words) and non (same (v words) 65535)) h)
 
 list_decided : (stops : ℕ) (words : List ℕ) (count : ℕ) (k : LineKind) (b : Bool) → count ≤ 64
-    → Decides (Some count (λ i. stops ≤ get_or words (5 + i) 0)) (line_broken stops (line_row k b count (serves_to words count)))
+    → Decides (AnyBelow count (λ i. stops ≤ get_or words (5 + i) 0)) (line_broken stops (line_row k b count (serves_to words count)))
 list_decided stops words count k b f = through to back (line_decided stops (line_row k b count (serves_to words count)))
   where
-    to : InLine stops (line_row k b count (serves_to words count)) → Some count (λ i. stops ≤ get_or words (5 + i) 0)
+    to : InLine stops (line_row k b count (serves_to words count)) → AnyBelow count (λ i. stops ≤ get_or words (5 + i) 0)
     to (inl h) = absurd (omega arith)
     to (inr x) = (x.0, x.1, subst (λ (y : ℕ). stops ≤ y) (serves_at words count x.0 f x.1) x.2)
 
-    back : Some count (λ i. stops ≤ get_or words (5 + i) 0) → InLine stops (line_row k b count (serves_to words count))
+    back : AnyBelow count (λ i. stops ≤ get_or words (5 + i) 0) → InLine stops (line_row k b count (serves_to words count))
     back x = inr (x.0, x.1, subst⁻¹ (λ (y : ℕ). stops ≤ y) (serves_at words count x.0 f x.1) x.2)
 
 -- ---- a rider's record

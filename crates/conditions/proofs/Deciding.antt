@@ -85,21 +85,21 @@ choice {P} {Q} {R} {a = false} {b} {c} p q r = record { so = λ e. inr (λ x. no
     back_second (inr x) = r.back x.1
 
 -- one of the numbers below a bound
-abbrev pub Some : ℕ → (ℕ → Type 0) → Type 0
-Some bound P = (i : ℕ) × (i < bound) × P i
+abbrev pub AnyBelow : ℕ → (ℕ → Type 0) → Type 0
+AnyBelow bound P = (i : ℕ) × (i < bound) × P i
 
-pub any : {P : ℕ → Type 0} {f : ℕ → Bool} → ((i : ℕ) → Decides (P i) (f i)) → (bound : ℕ) → Decides (Some bound P) (any_to f bound)
+pub any : {P : ℕ → Type 0} {f : ℕ → Bool} → ((i : ℕ) → Decides (P i) (f i)) → (bound : ℕ) → Decides (AnyBelow bound P) (any_to f bound)
 unfolding any_to
 any d zero = never (λ x. omega (arith, x.1))
 any {P} {f} d (suc k) = through last split (any d k or d k)
   where
-    last : Some k P ⊎ P k → Some (suc k) P
+    last : AnyBelow k P ⊎ P k → AnyBelow (suc k) P
     last (inl x) = (x.0, omega (arith, x.1), x.2)
     last (inr p) = (k, omega arith, p)
 
-    split : Some (suc k) P → Some k P ⊎ P k
+    split : AnyBelow (suc k) P → AnyBelow k P ⊎ P k
     split x = go (ltb x.0 k) refl
       where
-        go : (b : Bool) → ltb x.0 k ≡ b → Some k P ⊎ P k
+        go : (b : Bool) → ltb x.0 k ≡ b → AnyBelow k P ⊎ P k
         go true e = inl (x.0, ltb-true x.0 k e, x.2)
         go false e = let q : x.0 ≡ k = omega (arith, x.1, ltb-false x.0 k e) in inr (subst P q x.2)

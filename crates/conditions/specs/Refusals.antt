@@ -2,7 +2,7 @@
 -- words and order, and what a call answers then.
 -- It is to be held beside "A record comes in" alone: no list of checks and no decoder of the definition is named here,
 -- only the plain readers of words, floats and the world.
-use Rattle.std.specs.Prelude.{◌≡◌, ◌⊎◌, ◌↔◌, ◌≢◌, true, false, cond, List, [], ◌∷◌, ℕ, ◌+◌, ◌*◌, ◌/◌, ◌%◌, ◌^◌, ◌<◌, ◌≤◌, eqb, length, get_or, pos, Float}
+use Rattle.std.specs.Prelude.{◌≡◌, ◌⊎◌, ◌↔◌, ◌≢◌, true, false, cond, List, [], ◌∷◌, ℕ, ◌+◌, ◌*◌, ◌/◌, ◌%◌, ◌^◌, ◌<◌, ◌≤◌, eqb, length, get_or, pos, Float, Ok, Err}
 use Rattle.std.specs.Float.{fin}
 use Rattle.std.specs.Float.Ieee.{lt, le}
 use Rattle.float.specs.Float.{abs, is_finite, zero}
@@ -16,7 +16,6 @@ use Rattle.world.specs.declared.ElevatorPhase.TheVariants.{Idle, MovingToStop, R
 use Rattle.world.specs.declared.RiderPhase.TheVariants.{Boarding, Riding, Exiting}
 use Rattle.std.specs.declared.option.Option.TheVariants.{Some}
 use Rattle.record.specs.Record.{Answer}
-use Rattle.std.specs.Prelude.{Ok, Err}
 use Rattle.record.specs.Record.{record_of}
 use Rattle.report.specs.Report.{Reported}
 use Rattle.report.specs.Report.{report_of}

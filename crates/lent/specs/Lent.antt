@@ -1,10 +1,9 @@
 -- The record call on a lent world: what it answers and what it leaves, by the definition of the by-value call; and that lists of these calls are the certificate's lists.
-use Rattle.std.specs.Prelude.{◌≡◌, true, List, [], ◌∷◌, ℕ}
+use Rattle.std.specs.Prelude.{◌≡◌, true, List, [], ◌∷◌, ℕ, Ok, Err}
 use Rattle.world.specs.World.{empty_world}
 use Rattle.world.specs.declared.World.{World}
 use Rattle.world.specs.declared.refusal.Refusal.TheVariants.{LogShort}
 use Rattle.record.specs.Record.{Answer}
-use Rattle.std.specs.Prelude.{Ok, Err}
 use Rattle.record.specs.Record.{Outcome, record_of}
 use Rattle.record.specs.Calls.{Call, outcome, next, world_after}
 use Rattle.conditions.specs.Conditions.{Kept}

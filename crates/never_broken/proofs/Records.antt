@@ -31,6 +31,7 @@ use Rattle.world.specs.declared.refusal.Refusal.{Refusal}
 use Rattle.tape.specs.Tape.{decoded}
 use Rattle.tape.specs.Facts.{InBounds, Facts}
 use Rattle.tape.proofs.Bounds.{in_bounds}
+use Rattle.tape_records.specs.declared.Decoded.{Decoded}
 use Rattle.tape_records.specs.declared.Read.{Read}
 use Rattle.tape_records.specs.declared.Read.TheVariants as Read
 use Rattle.tape_records.specs.declared.Record.{Record}
@@ -43,9 +44,9 @@ use Rattle.orders.specs.Orders.{send_checks, sent, send}
 use Rattle.modes.specs.Modes.{order_checks, in_mode, at_speed, marked, set_mode, set_manual_speed, set_enabled}
 use Rattle.requests.specs.Requests.{command_checks, call_checks, destination_checks, commanded, destined, queue_command, press_hall_call, push_destination}
 use Rattle.record.specs.Record.{Answer}
-use Rattle.std.specs.Prelude.{Ok, Err}
+use Rattle.std.specs.Prelude.{Result, Ok, Err}
 use Rattle.record_kinds.specs.Kinds.{change_by}
-use Rattle.record.specs.Record.{Outcome, refused, changed, checks_of_tick, ticked, tick_once, read_by, record_of}
+use Rattle.record.specs.Record.{Outcome, refused, changed, checks_of_tick, ticked, tick_once, made_of, read_by, record_of}
 use Rattle.laws.proofs.Choices.{both, cases}
 use Rattle.world.proofs.Checks.{Passed, all, first_of, unless_has}
 use Rattle.never_broken.proofs.Numbers.{table_set, line_stays, rider_stays, press_stays}
@@ -321,12 +322,15 @@ module _ (w : World) (h : Sound w) (log : List ℕ) (used : ℕ) where
   changed_good serves (Record.Enable car enabled) = enable_keeps car enabled
   changed_good serves Record.Start = start_keeps
 
-read_good : (w : World) (words log serves : List ℕ) (read : Read) → Sound w → InBounds words read → Good (read_by w log serves read)
-read_good w words log serves (Read.Refused r) h b = record { world = h; answer = b.0 }
-read_good w words log serves (Read.Accepted read used) h b = changed_good w h log used serves read
-read_good w words log serves (Read.Tick dt used) h b = tick_keeps w h log used dt
+made_good : (w : World) (log serves : List ℕ) (read : Read) → Sound w → Good (made_of w log serves read)
+made_good w log serves (Read.Accepted read used) h = changed_good w h log used serves read
+made_good w log serves (Read.Tick dt used) h = tick_keeps w h log used dt
+
+read_good : (w : World) (words log : List ℕ) (d : Result Decoded Refusal) → Sound w → InBounds words d → Good (read_by w log d)
+read_good w words log (Err r) h b = record { world = h; answer = b.0 }
+read_good w words log (Ok d) h b = made_good w log d.serves d.read h
 
 pub record_good : (w : World) (words log : List ℕ) → Sound w → Good (record_of w words log)
 unfolding record_of Facts
 record_good w words log h =
-    cases Good (broken w) (λ e. absurd (true≢false (sym e ∙ whole w h))) (λ e. read_good w words log (decoded words).serves (decoded words).read h (in_bounds words))
+    cases Good (broken w) (λ e. absurd (true≢false (sym e ∙ whole w h))) (λ e. read_good w words log (decoded words) h (in_bounds words))

@@ -1,9 +1,8 @@
 -- Refusal 0: "Records never make one."
-use Rattle.std.specs.Prelude.{◌≡◌, false, List}
+use Rattle.std.specs.Prelude.{◌≡◌, false, List, Ok, Err}
 use Rattle.sound.specs.Sound.{broken}
 use Rattle.world.specs.declared.World.{World}
 use Rattle.world.specs.declared.refusal.Refusal.TheVariants.{BrokenWorld}
-use Rattle.std.specs.Prelude.{Ok, Err}
 use Rattle.record.specs.Calls.{Empty, Call, outcome, world_after}
 
 -- a world that is not broken, so that no call in it, whatever its words and log, is refused 0

@@ -1,11 +1,10 @@
 -- A study, record by record, and what is printed of it.
-use Rattle.std.specs.Prelude.{◌≡◌, Bool, not, List, ℕ, zero, suc, take}
+use Rattle.std.specs.Prelude.{◌≡◌, Bool, not, List, ℕ, zero, suc, take, Ok, Err}
 use Rattle.world.specs.declared.World.{World}
 use Rattle.world.specs.declared.refusal.Refusal.TheVariants.{CutShort}
 use Rattle.log_writes.specs.Log.{Wrote}
 use Rattle.record.specs.Record.{is_accepted, used_of}
 use Rattle.record.specs.Record.{Answer}
-use Rattle.std.specs.Prelude.{Ok, Err}
 use Rattle.report.specs.Report.{count_more, counted_report}
 use Rattle.report.specs.declared.Counts.{Counts}
 use Rattle.report.specs.Report.{Reported}

@@ -63,10 +63,10 @@ said_joined (c ∷ cs) w us left a = by (outcome w c).answer refl (λ vs. said_j
 
     by : (r : Answer) → o.answer ≡ r → Rest → Play.told r o.log ++ goes_on r (said o.world (counts_after r o.log (count_more no_counts us)) cs left)
         ≡ word_lines (told w c ++ joined o.world cs) ++ ending (world_after o.world cs) (count_more no_counts (us ++ (told w c ++ joined o.world cs))) (length left)
-    by (Ok a) e i =
-        let t : take written o.log ≡ told w c = ap (λ (x : Answer). take (written_of x) o.log) (sym e) ∙ tells w c a.0 in
-        rw (Counted.joined, i (us ++ take written o.log), ← t)
-        (glue (take written o.log) (joined o.world cs) us (λ (vs : List ℕ). ending (world_after o.world cs) (count_more no_counts vs) (length left)))
+    by (Ok b) e i =
+        let t : take b.written o.log ≡ told w c = ap (λ (x : Answer). take (written_of x) o.log) (sym e) ∙ tells w c a.0 in
+        rw (Counted.joined, i (us ++ take b.written o.log), ← t)
+        (glue (take b.written o.log) (joined o.world cs) us (λ (vs : List ℕ). ending (world_after o.world cs) (count_more no_counts vs) (length left)))
     by (Err r) e i = no (rw e at a.0)
 
 none_counted : count_more no_counts [] ≡ no_counts

@@ -7,11 +7,12 @@ use native.Mathlib.Omega.{arith}
 use lib.Dec.{ltb, eqb}
 use lib.ListN.{length, get_or, length-append, get_or-append}
 use borrow.Author.Tests.{le-ltb, ne_eqb, ltb-false, eqb-false}
+use Rattle.world.specs.declared.refusal.Refusal.{Refusal}
 use Rattle.world.specs.declared.refusal.Refusal.TheVariants.{CutShort}
 use Rattle.fields.specs.declared.head.Head.{Head}
 use Rattle.tape_records.specs.declared.Decoded.{Decoded}
-use Rattle.tape_records.specs.declared.Read.TheVariants.{Refused}
-use Rattle.tape_records.specs.Answers.{Deed, refused, answer}
+use Rattle.std.specs.Prelude.{Result, Ok, Err}
+use Rattle.tape_records.specs.Answers.{Deed, answer}
 use Rattle.tape.specs.Tape.{Kind, kind_in, kinds, record_of, decoded}
 use Rattle.tape_loads.specs.LoadRecords.{serves_count, serves_outside, serves_to, line_fields_outside, line_floats_outside, line_kind_of, line_record, stop_record, car_record, rider_record}
 use Rattle.tape_orders.specs.OrderRecords.{manual_speed_record, tick_record}
@@ -20,7 +21,7 @@ use Rattle.tape_loads.proofs.Serves.{count_small}
 use Rattle.whole_tape.specs.WholeTape.{Ignored, Longest}
 
 -- two tables that answer alike, where the second one's answer is one of which `g` holds
-module _ (g : Decoded → Type 0) where
+module _ (g : Result Decoded Refusal → Type 0) where
   infixr 5 ◌and◌
   data Alike : List Kind → List Kind → Type 0 where
     end : Alike [] []
@@ -128,15 +129,15 @@ module _ (ws vs : List ℕ) where
       go false e = same (count_small h.v e)
 
   -- not cut short
-  abbrev Uncut : Decoded → Type 0
-  Uncut d = d.read ≡ Refused CutShort → ⊥
+  abbrev Uncut : Result Decoded Refusal → Type 0
+  Uncut d = d ≡ Err CutShort → ⊥
 
   -- a record that is cut short where it has fewer than so many words
-  by_length : (k : ℕ) (a b : Decoded) → (ltb (length ws) k ≡ true → b ≡ refused CutShort) → (k ≤ length ws → a ≡ b) → Uncut b → a ≡ b
+  by_length : (k : ℕ) (a b : Result Decoded Refusal) → (ltb (length ws) k ≡ true → b ≡ Err CutShort) → (k ≤ length ws → a ≡ b) → Uncut b → a ≡ b
   by_length k a b cut same u = go (ltb (length ws) k) refl
     where
       go : (t : Bool) → ltb (length ws) k ≡ t → a ≡ b
-      go true e = absurd (u (ap (λ (d : Decoded). d.read) (cut e)))
+      go true e = absurd (u (cut e))
       go false e = same (ltb-false (length ws) k e)
 
   line_uncut : (h : Head) → Uncut (answer (line_record h ws)) → answer (line_record h (ws ++ vs)) ≡ answer (line_record h ws)

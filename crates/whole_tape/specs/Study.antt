@@ -1,11 +1,10 @@
 -- A whole tape: the calls that the study makes, and what it prints of them.
-use Rattle.std.specs.Prelude.{cond, List, [], ◌∷◌, ◌++◌, ℕ, zero, suc, ◌*◌, eqb, length, drop, replicate}
+use Rattle.std.specs.Prelude.{cond, List, [], ◌∷◌, ◌++◌, ℕ, zero, suc, ◌*◌, eqb, length, drop, replicate, Ok, Err}
 use Rattle.world.specs.World.{empty_world}
 use Rattle.world.specs.declared.World.{World}
 use Rattle.record.specs.Record.{Outcome, record_of, used_of}
 use Rattle.record.specs.Calls.{Call, outcome}
 use Rattle.record.specs.Record.{Answer}
-use Rattle.std.specs.Prelude.{Ok, Err}
 use Rattle.report.specs.Report.{no_counts}
 use Rattle.report.specs.declared.Counts.{Counts}
 use Rattle.study_text.specs.Text.{words_of}

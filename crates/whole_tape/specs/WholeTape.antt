@@ -1,7 +1,6 @@
 -- The pieces come to the whole tape.
-use Rattle.std.specs.Prelude.{◌≡◌, ◌⊎◌, Bool, true, false, cond, List, [], ◌∷◌, ◌++◌, ℕ, suc, ◌<◌, ◌≤◌, length, replicate}
+use Rattle.std.specs.Prelude.{◌≡◌, ◌⊎◌, Bool, true, false, cond, List, [], ◌∷◌, ◌++◌, ℕ, suc, ◌<◌, ◌≤◌, length, replicate, Err}
 use Rattle.world.specs.declared.refusal.Refusal.TheVariants.{CutShort}
-use Rattle.tape_records.specs.declared.Read.TheVariants.{Refused}
 use Rattle.tape.specs.Tape.{decoded}
 use Rattle.study_text.specs.Text.{words_of}
 use Rattle.pieces.specs.Pieces.{Playing, ready, advanced, playing, fresh}
@@ -9,7 +8,7 @@ use Rattle.whole_tape.specs.Study.{printed, study_text}
 
 -- "Words after the record are ignored": what follows words that are not cut short changes nothing
 unfoldable pub Ignored : Type 0
-Ignored = (ws vs : List ℕ) → ((decoded ws).read ≡ Refused CutShort → ⊥) → decoded (ws ++ vs) ≡ decoded ws
+Ignored = (ws vs : List ℕ) → (decoded ws ≡ Err CutShort → ⊥) → decoded (ws ++ vs) ≡ decoded ws
 
 -- no record is longer than 69 words
 unfoldable pub Longest : Type 0
