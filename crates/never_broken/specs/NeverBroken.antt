@@ -1,5 +1,5 @@
 -- Refusal 0: "Records never make one."
-use Rattle.std.specs.Prelude.{◌≡◌, false, List, Ok, Err}
+use Rattle.std.specs.Prelude.{◌≡◌, false, List, Err}
 use Rattle.sound.specs.Sound.{broken}
 use Rattle.world.specs.declared.World.{World}
 use Rattle.world.specs.declared.refusal.Refusal.TheVariants.{BrokenWorld}
