@@ -13,47 +13,33 @@ use world::{Car, Lamps, LineKind, Queue, Rider};
 fn needing(lamps: Lamps, position: f64, stop: f64) -> Lamps
     ensures { result ≡ Arrival.needing lamps position stop }
 {
-    let mut l = lamps;
     if position > stop {
-        l.going_up = true;
+        Lamps {
+            going_up: true,
+            ..lamps
+        }
     } else if position < stop {
-        l.going_down = true;
-    }
-    l
-}
-
-// With a rider's destination, where it has one.
-fn needing_stop(destination: Option<u8>, lamps: Lamps, stops: &[f64; 64], stop: f64) -> Lamps
-    ensures { result ≡ Arrival.needing_stop destination lamps stops.now stop }
-{
-    match destination {
-        None => lamps,
-        Some(s) => needing(lamps, stop_position(stops, s), stop),
+        Lamps {
+            going_down: true,
+            ..lamps
+        }
+    } else {
+        lamps
     }
 }
 
-fn is_aboard(aboard: Option<u8>, number: u8) -> bool
-    ensures { result ≡ Arrival.is_aboard aboard number }
-{
-    match aboard {
-        None => false,
-        Some(car) => car == number,
-    }
-}
-
-// With one more rider, where it is aboard the car.
+// With one more rider, where it is aboard the car and has a destination.
 fn needing_rider(rider: Rider, lamps: Lamps, stops: &[f64; 64], number: u8, stop: f64) -> Lamps
     ensures { result ≡ Arrival.needing_rider rider lamps stops.now number stop }
 {
-    let aboard = rider.aboard;
-    if is_aboard(aboard, number) {
-        let destination = rider.destination;
-        return needing_stop(destination, lamps, stops, stop);
+    match rider.destination {
+        Some(s) if rider.aboard == Some(number) => needing(lamps, stop_position(stops, s), stop),
+        _ => lamps,
     }
-    lamps
 }
 
 // What the riders aboard need.
+#[tactic(auto, using(crate::proofs::Needs::no_rider_yet))]
 fn riders_need(
     riders: [Rider; 128],
     rider_count: usize,
@@ -64,30 +50,22 @@ fn riders_need(
     ensures { result ≡ Arrival.riders_to riders stops.now number stop (min rider_count 128) }
 {
     let count = rider_count.min(128);
-    let mut lamps = Lamps {
-        going_up: false,
-        going_down: false,
-    };
-    let mut n: usize = 0;
-    while n < count {
-        let rider = riders[n];
+    let mut lamps = Lamps::NONE;
+    for &rider in &riders[..count] {
         lamps = needing_rider(rider, lamps, stops, number, stop);
-        n += 1;
     }
     lamps
 }
 
 // What the riders and the queue need.
+#[tactic(auto, using(crate::proofs::Needs::queue_turn))]
 fn queue_needs(queue: Queue, stops: &[f64; 64], riders: Lamps, stop: f64) -> Lamps
     ensures { result ≡ Arrival.queued_to queue stops.now riders stop (min queue.count 8) }
 {
     let count = queue.count.min(8);
     let mut lamps = riders;
-    let mut n: usize = 0;
-    while n < count {
-        let s = queue.stops[n];
+    for &s in &queue.stops[..count] {
         lamps = needing(lamps, stop_position(stops, s), stop);
-        n += 1;
     }
     lamps
 }
@@ -96,16 +74,14 @@ fn queue_needs(queue: Queue, stops: &[f64; 64], riders: Lamps, stop: f64) -> Lam
 fn both_if_none(lamps: Lamps) -> Lamps
     ensures { result ≡ Arrival.both_if_none lamps }
 {
-    if !lamps.going_up & !lamps.going_down {
-        return Lamps {
-            going_up: true,
-            going_down: true,
-        };
+    if lamps == Lamps::NONE {
+        return Lamps::BOTH;
     }
     lamps
 }
 
 // movement.rs, direction_from_remaining_work
+#[tactic(auto, unfolding(crate::specs::Arrival::direction_from_remaining_work))]
 pub fn direction_from_remaining_work(
     riders: [Rider; 128],
     rider_count: usize,
@@ -120,40 +96,35 @@ pub fn direction_from_remaining_work(
     both_if_none(queue_needs(queue, stops, aboard, stop))
 }
 
-fn shifted(q: [u8; 8]) -> [u8; 8]
+fn shifted(mut q: [u8; 8]) -> [u8; 8]
     ensures { result ≡ Arrival.shifted q }
 {
-    [q[1], q[2], q[3], q[4], q[5], q[6], q[7], 0]
+    q.copy_within(1.., 0);
+    q[7] = 0;
+    q
 }
 
 // The queue without its front, where that is the stop.
+#[tactic(auto, unfolding(crate::specs::Arrival::popped))]
 pub fn popped(car: Car, s: u8) -> Queue
     ensures { result ≡ Arrival.popped car s }
 {
     let stops = car.destination_queue;
-    if (0 < car.destination_count) & (stops[0] == s) {
-        let rest = shifted(stops);
+    let count = car.destination_count;
+    if (0 < count) & (stops[0] == s) {
         return Queue {
-            stops: rest,
-            count: car.destination_count - 1,
+            stops: shifted(stops),
+            count: count - 1,
         };
     }
-    Queue {
-        stops,
-        count: car.destination_count,
-    }
+    Queue { stops, count }
 }
 
 // Whether a turn asks for direction_from_remaining_work: it comes to a stop of a linear line. A loop car's lamps stay as they are.
 pub fn asks_work(trip: Trip, kind: LineKind, arrived: bool) -> bool
     ensures { result ≡ Arrival.asks_work trip kind arrived }
 {
-    match trip {
-        Trip::Rests => false,
-        Trip::Drives => false,
-        Trip::GoesTo(_) => arrived & !is_loop(kind),
-        Trip::Repositions(_) => false,
-    }
+    matches!(trip, Trip::GoesTo(_)) & arrived & !is_loop(kind)
 }
 
 // direction_from_remaining_work of a car that goes to a stop.
@@ -168,8 +139,6 @@ pub fn work_of(
     ensures { result ≡ Arrival.work_of trip riders rider_count car stops.now number }
 {
     match trip {
-        Trip::Rests => lamps_of(car),
-        Trip::Drives => lamps_of(car),
         Trip::GoesTo(s) => direction_from_remaining_work(
             riders,
             rider_count,
@@ -178,6 +147,6 @@ pub fn work_of(
             number,
             stop_position(stops, s),
         ),
-        Trip::Repositions(_) => lamps_of(car),
+        _ => lamps_of(car),
     }
 }

@@ -19,8 +19,7 @@ use world::{Car, LineKind, Motion};
 fn max_speed(car: Car) -> f64
     ensures { result ≡ Landing.max_speed_of car }
 {
-    let mode = car.service_mode;
-    if is_inspection(mode) {
+    if is_inspection(car.service_mode) {
         return car.motion.max_speed * car.motion.inspection_speed_factor;
     }
     car.motion.max_speed
@@ -76,16 +75,6 @@ fn result_by(
             dt,
             circumference,
         ),
-    }
-}
-
-// manual_target_velocity.unwrap_or(0.0)
-fn wanted_speed(speed: Option<f64>) -> f64
-    ensures { result ≡ Landing.wanted_speed speed }
-{
-    match speed {
-        None => 0.0,
-        Some(v) => v,
     }
 }
 
@@ -161,9 +150,8 @@ fn driven(kind: LineKind, leader: Option<f64>, car: Car, dt: f64) -> MovementRes
     ensures { result ≡ Landing.driven kind leader car dt }
 {
     let m = car.motion;
-    let speed = car.manual_target_velocity;
     let velocity = manual_velocity(
-        wanted_speed(speed),
+        car.manual_target_velocity.unwrap_or(0.0),
         m.velocity,
         m.max_speed,
         m.acceleration,
@@ -212,10 +200,7 @@ pub fn leader_of(
 {
     match kind {
         LineKind::Linear => None,
-        LineKind::Loop {
-            circumference,
-            min_headway: _,
-        } => loop_leader_pos(
+        LineKind::Loop { circumference, .. } => loop_leader_pos(
             cars,
             car_count,
             i,

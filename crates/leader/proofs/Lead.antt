@@ -45,6 +45,10 @@ module _ {cars : List Car} {pos circumference : Float} where
   pos_held nobody = refl
   pos_held (somebody j) = refl
 
+  pub none_yet : (me line : ℕ) (nearest position : Float) → Held cars pos circumference (leader_to cars me line pos circumference 0) false nearest position
+  unfolding leader_to
+  none_yet me line nearest position = nobody
+
   module _ {found : Bool} {nearest position : Float} (me line i : ℕ) (h : Held cars pos circumference (leader_to cars me line pos circumference i) found nearest position) where
     pub taken : is_other cars me line i ≡ true → is_nearer found nearest (car_ahead cars pos circumference i) ≡ true
         → Held cars pos circumference (leader_to cars me line pos circumference (i + 1)) true (car_ahead cars pos circumference i) (position_of cars i)
@@ -59,6 +63,9 @@ module _ {cars : List Car} {pos circumference : Float} where
     pub passed : is_other cars me line i ≡ false → Held cars pos circumference (leader_to cars me line pos circumference (i + 1)) found nearest position
     unfolding leader_to
     passed t = rw (add-one, t) h
+
+-- one turn of the search
+pub ruleset turn_of = (none_yet, taken, kept, passed, pos_held)
 
 -- ---- the claim
 

@@ -24,6 +24,7 @@ fn is_nearer(found: bool, nearest: f64, distance: f64) -> bool
 }
 
 // movement.rs, loop_leader_pos
+#[tactic(auto, using(crate::proofs::Lead::turn_of), unfolding(crate::specs::Leader::loop_leader_pos))]
 pub fn loop_leader_pos(
     cars: [Car; 16],
     car_count: usize,
@@ -35,12 +36,11 @@ pub fn loop_leader_pos(
     ensures { result ≡ loop_leader_pos cars car_count me line pos circumference }
 {
     let n = car_count.min(16);
-    // Plain variables: a copy of an enum waits for its padding.
+    // Stays: in place of these an Option would be copied, and a copy of an enum waits for its padding.
     let mut found = false;
     let mut nearest: f64 = 0.0;
     let mut position: f64 = 0.0;
-    let mut i: usize = 0;
-    while i < n {
+    for i in 0..n {
         let car = cars[i];
         if is_other(car, me, line, i) {
             let distance = forward_distance(pos, car.motion.position, circumference);
@@ -50,12 +50,12 @@ pub fn loop_leader_pos(
                 position = car.motion.position;
             }
         }
-        i += 1;
     }
     if found { Some(position) } else { None }
 }
 
 // Carries the claim that the definition gives the leader.
+#[tactic(auto, using(crate::proofs::Lead::leader_is_nearest))]
 pub fn leader_is_nearest() -> bool
     ensures { (result ≡ true) × LeaderIsNearest }
 {

@@ -5,6 +5,7 @@ use mathlib.Core.List.{List}
 use Prim.Native.Nat.{ℕ, suc, ◌+◌, ◌-◌, ◌≤◌, ◌<◌}
 use native.Mathlib.Omega.{arith}
 use lib.Ieee.{Float}
+use Rattle.std.proofs.lemmas.List.{get_or-take}
 use Rattle.world.specs.World.{stop_at}
 use Rattle.lookup.specs.Stops.{stands_at, first_standing}
 use Rattle.std.specs.declared.option.Option.TheVariants.{None, Some}
@@ -28,3 +29,6 @@ module _ (stops : List Float) (position : Float) (candidate : ℕ → ℕ) (n i 
   pub ended : n ≤ i → first_standing stops position candidate (n - i) i ≡ None
   unfolding first_standing
   ended h = let e : n - i ≡ 0 = omega arith in rw e
+
+-- one turn of a search, in the stops or in a list
+pub ruleset standing = (found, passed, ended, get_or-take)

@@ -26,6 +26,7 @@ pub fn stop_position(stops: &[f64; 64], s: u8) -> f64
 }
 
 // Whether a stop stands at a position.
+#[tactic(auto, unfolding(crate::specs::Stops::stands_at))]
 fn stands_at(stop: f64, position: f64) -> bool
     ensures { result ≡ stands_at stop position }
 {
@@ -33,21 +34,21 @@ fn stands_at(stop: f64, position: f64) -> bool
 }
 
 // world.rs, find_stop_at_position
+#[tactic(auto, using(crate::proofs::Standing::standing), unfolding(crate::specs::Stops::find_stop_at_position))]
 pub fn find_stop_at_position(stops: &[f64; 64], stop_count: usize, position: f64) -> Option<u8>
     ensures { result ≡ find_stop_at_position stops.now stop_count position }
 {
     let n = stop_count.min(64);
-    let mut s: usize = 0;
-    while s < n {
+    for s in 0..n {
         if stands_at(stops[s], position) {
             return Some(s as u8);
         }
-        s += 1;
     }
     None
 }
 
 // world.rs, find_stop_at_position_in
+#[tactic(auto, using(crate::proofs::Standing::standing), unfolding(crate::specs::Stops::find_stop_at_position_in))]
 pub fn find_stop_at_position_in(
     stops: &[f64; 64],
     position: f64,
@@ -57,35 +58,29 @@ pub fn find_stop_at_position_in(
     ensures { result ≡ find_stop_at_position_in stops.now position serves.now serves_count }
 {
     let n = serves_count.min(64);
-    let mut i: usize = 0;
-    while i < n {
-        let s = serves[i];
+    for &s in &serves[..n] {
         if stands_at(stop_position(stops, s), position) {
             return Some(s);
         }
-        i += 1;
     }
     None
 }
 
 // dispatch/mod.rs, elevator_line_serves
+#[tactic(auto, unfolding(crate::specs::Stops::elevator_line_serves))]
 pub fn elevator_line_serves(lines: [Line; 8], line: u8) -> Serves
     ensures { result ≡ elevator_line_serves lines line }
 {
-    let at = line as usize;
-    if at < 8 {
-        let l = lines[at];
-        let serves = l.serves;
-        Serves {
+    match lines.get(line as usize) {
+        Some(l) => Serves {
             listed: l.listed,
-            serves,
+            serves: l.serves,
             serves_count: l.serves_count,
-        }
-    } else {
-        Serves {
+        },
+        None => Serves {
             listed: false,
-            serves: [0u8; 64],
+            serves: [0; 64],
             serves_count: 0,
-        }
+        },
     }
 }

@@ -10,6 +10,7 @@ use motion::cyclic::forward_distance;
 use world::{Line, LineKind};
 
 // How far a stop is ahead on a loop; the whole circle where the car stands at it.
+#[tactic(auto, unfolding(crate::specs::NextStop::ahead_of))]
 fn ahead_of(circumference: f64, position: f64, stop: f64) -> f64
     ensures { result ≡ ahead_of circumference position stop }
 {
@@ -35,6 +36,7 @@ fn stop_of(best: Option<(f64, u8)>) -> Option<u8>
 }
 
 // dispatch/mod.rs, loop_next_stop_forward
+#[tactic(auto, using(crate::proofs::Nearest::next_stop_turn), unfolding(crate::specs::NextStop::loop_next_stop_forward))]
 pub fn loop_next_stop_forward(
     stops: &[f64; 64],
     circumference: f64,
@@ -49,40 +51,26 @@ pub fn loop_next_stop_forward(
     }
     let n = serves_count.min(64);
     let mut best = None;
-    let mut i: usize = 0;
-    while i < n {
-        let s = serves[i];
-        best = nearer_of(
-            best,
-            ahead_of(circumference, position, stop_position(stops, s)),
-            s,
-        );
-        i += 1;
+    for &s in &serves[..n] {
+        let distance = ahead_of(circumference, position, stop_position(stops, s));
+        best = nearer_of(best, distance, s);
     }
     stop_of(best)
 }
 
 // dispatch/mod.rs, loop_next_stop_for_car
+#[tactic(auto, unfolding(crate::specs::NextStop::loop_next_stop_for_car))]
 pub fn loop_next_stop_for_car(line: Line, stops: &[f64; 64], position: f64) -> Option<u8>
     ensures { result ≡ loop_next_stop_for_car line stops.now position }
 {
-    let kind = line.kind;
-    match kind {
-        LineKind::Linear => None,
-        LineKind::Loop {
+    match line.kind {
+        LineKind::Loop { circumference, .. } if line.listed => loop_next_stop_forward(
+            stops,
             circumference,
-            min_headway: _,
-        } => {
-            if line.listed {
-                return loop_next_stop_forward(
-                    stops,
-                    circumference,
-                    &line.serves,
-                    line.serves_count,
-                    position,
-                );
-            }
-            None
-        }
+            &line.serves,
+            line.serves_count,
+            position,
+        ),
+        _ => None,
     }
 }

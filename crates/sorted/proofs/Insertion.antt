@@ -236,3 +236,6 @@ stops_sorted stops = (
         none = times_none stops n;
       },
 )
+
+-- one turn of an insertion
+pub ruleset insert_turn = (moved, placed, table_grows)

@@ -7,13 +7,15 @@ ghost use Rattle.sorted.specs.Sorted.{position_before, stop_before, sorted_table
 use lookup::stops::stop_position;
 
 // Whether a position comes before another: 0 and -0 alike, one that is not a number last.
+#[tactic(auto, unfolding(crate::specs::Sorted::position_before))]
 fn position_before(p: f64, q: f64) -> bool
     ensures { result ≡ position_before p q }
 {
-    (p < q) | (p == p) & (q != q)
+    (p < q) | !p.is_nan() & q.is_nan()
 }
 
 // Whether stop i comes before stop j.
+#[tactic(auto, unfolding(crate::specs::Sorted::stop_before))]
 fn stop_before(stops: &[f64; 64], i: u8, j: u8) -> bool
     ensures { result ≡ stop_before stops.now i j }
 {
@@ -23,6 +25,7 @@ fn stop_before(stops: &[f64; 64], i: u8, j: u8) -> bool
 }
 
 // Whether stop i does not come before stop j. Where j lies lower, one comparison says so.
+#[tactic(auto, using(crate::proofs::Order::not_before_lower))]
 fn comes_after(stops: &[f64; 64], i: u8, j: u8) -> bool
     ensures { result ≡ not (stop_before stops.now i j) }
 {
@@ -33,10 +36,12 @@ fn comes_after(stops: &[f64; 64], i: u8, j: u8) -> bool
 }
 
 // Stop i into the sorted i before it, from the back: one comparison where it comes last.
+#[tactic(auto, using(crate::proofs::Insertion::insert_turn), unfolding(crate::proofs::Insertion::from_back))]
 fn insert(order: &mut [u8; 64], stops: &[f64; 64], i: usize)
     requires { (i < 64) × (order.old ≡ sorted_table stops.now i) }
     ensures { order.new ≡ sorted_table stops.now (i + 1) }
 {
+    // Stays: a `for` over the places in reverse has the same tests and writes, and is no plainer.
     let mut k = i;
     while 0 < k {
         let j = order[k - 1];
@@ -51,20 +56,20 @@ fn insert(order: &mut [u8; 64], stops: &[f64; 64], i: usize)
 }
 
 // The numbers below the count in the order of their stops; zeros past the count.
+#[tactic(auto, unfolding(crate::specs::Sorted::sorted_stops))]
 pub fn sorted_stops(stops: &[f64; 64], stop_count: usize) -> [u8; 64]
     ensures { result ≡ sorted_table stops.now (min stop_count 64) }
 {
     let n = stop_count.min(64);
     let mut order = [0u8; 64];
-    let mut i: usize = 0;
-    while i < n {
+    for i in 0..n {
         insert(&mut order, stops, i);
-        i += 1;
     }
     order
 }
 
 // Carries the claims that the definition is sorted and has each number once.
+#[tactic(auto, using(crate::proofs::Insertion::stops_sorted))]
 pub fn stops_sorted() -> bool
     ensures { (result ≡ true) × StopsSorted }
 {

@@ -11,7 +11,7 @@ use motion::cyclic::forward_distance;
 use world::{Car, ElevatorPhase, LineKind, ServiceMode};
 
 // Which way a car goes in a tick.
-#[derive(Clone, Copy)]
+#[derive(Clone, Copy, PartialEq, Eq)]
 pub enum Trip {
     Rests,
     Drives,
@@ -23,13 +23,9 @@ fn trip_by(phase: ElevatorPhase) -> Trip
     ensures { result ≡ Trips.trip_by phase }
 {
     match phase {
-        ElevatorPhase::Idle => Trip::Rests,
         ElevatorPhase::MovingToStop(s) => Trip::GoesTo(s),
         ElevatorPhase::Repositioning(s) => Trip::Repositions(s),
-        ElevatorPhase::DoorOpening => Trip::Rests,
-        ElevatorPhase::Loading => Trip::Rests,
-        ElevatorPhase::DoorClosing => Trip::Rests,
-        ElevatorPhase::Stopped => Trip::Rests,
+        _ => Trip::Rests,
     }
 }
 
@@ -37,11 +33,8 @@ fn trip_in(mode: ServiceMode, phase: ElevatorPhase) -> Trip
     ensures { result ≡ Trips.trip_in mode phase }
 {
     match mode {
-        ServiceMode::Normal => trip_by(phase),
-        ServiceMode::Independent => trip_by(phase),
-        ServiceMode::Inspection => trip_by(phase),
         ServiceMode::Manual => Trip::Drives,
-        ServiceMode::OutOfService => trip_by(phase),
+        _ => trip_by(phase),
     }
 }
 
@@ -52,29 +45,19 @@ pub fn trip_of(car: Car) -> Trip
     if !car.enabled {
         return Trip::Rests;
     }
-    let mode = car.service_mode;
-    let phase = car.phase;
-    trip_in(mode, phase)
+    trip_in(car.service_mode, car.phase)
 }
 
 pub fn is_trip(trip: Trip) -> bool
     ensures { result ≡ Trips.is_trip trip }
 {
-    match trip {
-        Trip::Rests => false,
-        Trip::Drives => true,
-        Trip::GoesTo(_) => true,
-        Trip::Repositions(_) => true,
-    }
+    trip != Trip::Rests
 }
 
 pub fn is_loop(kind: LineKind) -> bool
     ensures { result ≡ Trips.is_loop kind }
 {
-    match kind {
-        LineKind::Linear => false,
-        LineKind::Loop { .. } => true,
-    }
+    matches!(kind, LineKind::Loop { .. })
 }
 
 // run, `dist`.
@@ -83,10 +66,7 @@ pub fn travelled(kind: LineKind, old: f64, new: f64) -> f64
 {
     match kind {
         LineKind::Linear => abs(new - old),
-        LineKind::Loop {
-            circumference,
-            min_headway: _,
-        } => forward_distance(old, new, circumference),
+        LineKind::Loop { circumference, .. } => forward_distance(old, new, circumference),
     }
 }
 

@@ -2,6 +2,7 @@
 ghost use Rattle.std.specs.Prelude.{◌≡◌};
 ghost use Rattle.trips.specs.Spans as Spans;
 
+use crate::is_loop;
 use world::LineKind;
 
 // What a tick sweeps over: one range, or the two parts of a seam.
@@ -29,10 +30,7 @@ pub fn span_of(kind: LineKind, old: f64, new: f64) -> Span
             }
             Span::Range { lo: new, hi: old }
         }
-        LineKind::Loop {
-            circumference,
-            min_headway: _,
-        } => {
+        LineKind::Loop { circumference, .. } => {
             if new < old {
                 return Span::Seam {
                     old,
@@ -61,10 +59,7 @@ pub fn manual_span(kind: LineKind, old: f64, new: f64, velocity: f64) -> Span
 {
     match kind {
         LineKind::Linear => range_between(old, new),
-        LineKind::Loop {
-            circumference,
-            min_headway: _,
-        } => {
+        LineKind::Loop { circumference, .. } => {
             if (new < old) & (velocity >= 0.0) {
                 return Span::Seam {
                     old,
@@ -81,8 +76,5 @@ pub fn manual_span(kind: LineKind, old: f64, new: f64, velocity: f64) -> Span
 pub fn moving_up(kind: LineKind, old: f64, new: f64) -> bool
     ensures { result ≡ Spans.moving_up kind old new }
 {
-    match kind {
-        LineKind::Linear => old < new,
-        LineKind::Loop { .. } => true,
-    }
+    is_loop(kind) | (old < new)
 }

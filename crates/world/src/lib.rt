@@ -129,6 +129,17 @@ pub struct Lamps {
     pub going_down: bool,
 }
 
+impl Lamps {
+    pub const BOTH: Lamps = Lamps {
+        going_up: true,
+        going_down: true,
+    };
+    pub const NONE: Lamps = Lamps {
+        going_up: false,
+        going_down: false,
+    };
+}
+
 // A car's queue of destinations.
 #[derive(Clone, Copy, PartialEq, Eq)]
 pub struct Queue {

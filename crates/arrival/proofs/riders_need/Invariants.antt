@@ -1,14 +1,7 @@
 -- What the loops keep.
-use mathlib.Core.Path.{◌≡◌, refl}
-use Prim.Native.Nat.{◌≤◌, ◌-◌, min}
-use native.Mathlib.Numerals.{add-one}
-use native.Mathlib.Omega.{arith}
-use borrow.Author.Rules.{rules}
+use mathlib.Core.Path.{◌≡◌}
 use Rattle.arrival.specs.Arrival.{riders_to}
 use Rattle.arrival.proofs.riders_need.Given as goal
 
-abbrev pub invariant-loop-n : goal.invariant-loop-n
-invariant-loop-n l = (l.n ≤ l.count) × (l.lamps ≡ riders_to l.riders l.stops l.number l.stop l.n)
-
-abbrev pub decreases-loop-n : goal.decreases-loop-n
-decreases-loop-n l = l.count - l.n
+abbrev pub invariant-loop-rider : goal.invariant-loop-rider
+invariant-loop-rider l = l.lamps ≡ riders_to l.fn.riders l.stops l.number l.stop l.rider-index

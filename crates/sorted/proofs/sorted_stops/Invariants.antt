@@ -1,11 +1,7 @@
 -- What the loops keep.
 use mathlib.Core.Path.{◌≡◌}
-use Prim.Native.Nat.{◌≤◌, ◌-◌}
 use Rattle.sorted.specs.Sorted.{sorted_table}
 use Rattle.sorted.proofs.sorted_stops.Given as goal
 
 abbrev pub invariant-loop-i : goal.invariant-loop-i
-invariant-loop-i l = (l.i ≤ l.n) × (l.order ≡ sorted_table l.stops l.i)
-
-abbrev pub decreases-loop-i : goal.decreases-loop-i
-decreases-loop-i l = l.n - l.i
+invariant-loop-i l = l.order ≡ sorted_table l.stops l.i

@@ -1,11 +1,8 @@
 -- What the loops keep.
 use mathlib.Core.Path.{◌≡◌}
-use Prim.Native.Nat.{ℕ, ◌≤◌, ◌-◌}
+use Prim.Native.Nat.{ℕ, ◌-◌}
 use Rattle.lookup.specs.Stops.{first_standing, find_stop_at_position}
 use Rattle.lookup.proofs.stops.find_stop_at_position.Given as goal
 
 abbrev pub invariant-loop-s : goal.invariant-loop-s
-invariant-loop-s l = (l.s ≤ l.n) × (find_stop_at_position l.stops l.stop_count l.position ≡ first_standing l.stops l.position (λ (k : ℕ). k) (l.n - l.s) l.s)
-
-abbrev pub decreases-loop-s : goal.decreases-loop-s
-decreases-loop-s l = l.n - l.s
+invariant-loop-s l = find_stop_at_position l.stops l.stop_count l.position ≡ first_standing l.stops l.position (λ (k : ℕ). k) (l.n - l.s) l.s

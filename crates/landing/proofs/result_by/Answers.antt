@@ -1,9 +1,0 @@
--- `landing::result_by` meets its contract. Assumes nothing.
-use borrow.Author.Rules.{rules}
-use Rattle.landing.proofs.result_by.Goals as goal
-
-pub returns-in-Linear : goal.returns-in-Linear
-returns-in-Linear c = rw c.in-Linear.is c.tick_movement.ensures
-
-pub returns-in-Loop : goal.returns-in-Loop
-returns-in-Loop c = rw (c.in-Loop.is, c.tick_movement_cyclic.ensures, c.effective_target.ensures)

@@ -1,9 +1,0 @@
--- `trips::trip_by` meets its contract. Assumes nothing.
-use borrow.Author.Rules.{rules}
-use Rattle.trips.proofs.trip_by.Goals as goal
-
-pub returns-in-MovingToStop : goal.returns-in-MovingToStop
-returns-in-MovingToStop c = rw c.in-MovingToStop.is
-
-pub returns-in-Repositioning : goal.returns-in-Repositioning
-returns-in-Repositioning c = rw c.in-Repositioning.is
