@@ -8,6 +8,7 @@ ghost use Rattle.laws.specs.Numbers.{plus};
 ghost use Rattle.world.specs.World.{empty_world};
 ghost use Rattle.beside_ticks.specs.Bench as Bench;
 
+use float::number_bits;
 use lent::turn;
 use record::{Accepted, Answer, Recorded, record};
 use std::num::wrapping_add_u64;
@@ -94,17 +95,13 @@ fn by_lending(words: &[u32], log: &mut [u32], records: u64) -> Played
     }
 }
 
-// A number's bits; 0 for a NaN, of which none comes about.
-fn bits(x: f64) -> u64
-    ensures { result ≡ number_bits x }
-{
-    if x != x { 0 } else { f64::to_bits(x) }
-}
-
 fn sum(car: Car) -> u64
     ensures { result ≡ plus (number_bits car.motion.position) (number_bits car.motion.velocity) }
 {
-    wrapping_add_u64(bits(car.motion.position), bits(car.motion.velocity))
+    wrapping_add_u64(
+        number_bits(car.motion.position),
+        number_bits(car.motion.velocity),
+    )
 }
 
 fn sum_of_cars(cars: [Car; 16]) -> u64

@@ -6,7 +6,7 @@ ghost use Rattle.door.specs.Door.{request_open, tick, is_open, is_closed};
 ghost use Rattle.door.specs.Phases.{PhasesEnd};
 
 // Where a door stands, with the ticks left there and those of the phases to come.
-#[derive(Clone, Copy)]
+#[derive(Clone, Copy, PartialEq, Eq)]
 pub enum DoorState {
     Closed,
     Opening {
@@ -24,7 +24,7 @@ pub enum DoorState {
 }
 
 // What a host asks of a door by hand.
-#[derive(Clone, Copy)]
+#[derive(Clone, Copy, PartialEq, Eq)]
 pub enum DoorCommand {
     Open,
     Close,
@@ -33,7 +33,7 @@ pub enum DoorCommand {
 }
 
 // The phase that a tick ended, if any.
-#[derive(Clone, Copy)]
+#[derive(Clone, Copy, PartialEq, Eq)]
 pub enum DoorTransition {
     None,
     FinishedOpening,
@@ -42,7 +42,7 @@ pub enum DoorTransition {
 }
 
 // A door after a tick, and the transition of that tick.
-#[derive(Clone, Copy)]
+#[derive(Clone, Copy, PartialEq, Eq)]
 pub struct Ticked {
     pub door: DoorState,
     pub transition: DoorTransition,
@@ -53,24 +53,14 @@ impl DoorState {
     pub fn is_open(self) -> bool
         ensures { result ≡ is_open self }
     {
-        match self {
-            DoorState::Closed => false,
-            DoorState::Opening { .. } => false,
-            DoorState::Open { .. } => true,
-            DoorState::Closing { .. } => false,
-        }
+        matches!(self, DoorState::Open { .. })
     }
 
     // Fully closed.
     pub fn is_closed(self) -> bool
         ensures { result ≡ is_closed self }
     {
-        match self {
-            DoorState::Closed => true,
-            DoorState::Opening { .. } => false,
-            DoorState::Open { .. } => false,
-            DoorState::Closing { .. } => false,
-        }
+        matches!(self, DoorState::Closed)
     }
 
     // Begins to open: the closing will take as long as the opening.
@@ -84,100 +74,59 @@ impl DoorState {
         }
     }
 
-    // One tick, and the transition that it made.
+    // One tick, and the transition that it made. A phase with 0 or 1 ticks remaining ends.
     pub fn tick(self) -> Ticked
         ensures { result ≡ tick self }
     {
-        match self {
-            DoorState::Closed => Ticked {
-                door: DoorState::Closed,
-                transition: DoorTransition::None,
-            },
+        let mut door = self;
+        let transition = match &mut door {
+            DoorState::Closed => DoorTransition::None,
             DoorState::Opening {
                 ticks_remaining,
                 open_duration,
                 close_duration,
-            } => tick_opening(ticks_remaining, open_duration, close_duration),
+            } => {
+                if *ticks_remaining <= 1 {
+                    door = DoorState::Open {
+                        ticks_remaining: *open_duration,
+                        close_duration: *close_duration,
+                    };
+                    DoorTransition::FinishedOpening
+                } else {
+                    *ticks_remaining -= 1;
+                    DoorTransition::None
+                }
+            }
             DoorState::Open {
                 ticks_remaining,
                 close_duration,
-            } => tick_open(ticks_remaining, close_duration),
-            DoorState::Closing { ticks_remaining } => tick_closing(ticks_remaining),
-        }
-    }
-}
-
-// The three arms of `tick`: a phase with 0 or 1 ticks remaining ends.
-
-fn tick_opening(opening_remaining: u32, open_duration: u32, close_duration: u32) -> Ticked
-    ensures { result ≡ tick (DoorState.Opening opening_remaining open_duration close_duration) }
-{
-    if opening_remaining <= 1 {
-        let opened = DoorState::Open {
-            ticks_remaining: open_duration,
-            close_duration,
+            } => {
+                if *ticks_remaining <= 1 {
+                    door = DoorState::Closing {
+                        ticks_remaining: *close_duration,
+                    };
+                    DoorTransition::FinishedOpen
+                } else {
+                    *ticks_remaining -= 1;
+                    DoorTransition::None
+                }
+            }
+            DoorState::Closing { ticks_remaining } => {
+                if *ticks_remaining <= 1 {
+                    door = DoorState::Closed;
+                    DoorTransition::FinishedClosing
+                } else {
+                    *ticks_remaining -= 1;
+                    DoorTransition::None
+                }
+            }
         };
-        Ticked {
-            door: opened,
-            transition: DoorTransition::FinishedOpening,
-        }
-    } else {
-        let still_opening = DoorState::Opening {
-            ticks_remaining: opening_remaining - 1,
-            open_duration,
-            close_duration,
-        };
-        Ticked {
-            door: still_opening,
-            transition: DoorTransition::None,
-        }
-    }
-}
-
-fn tick_open(open_remaining: u32, close_duration: u32) -> Ticked
-    ensures { result ≡ tick (DoorState.Open open_remaining close_duration) }
-{
-    if open_remaining <= 1 {
-        let closing = DoorState::Closing {
-            ticks_remaining: close_duration,
-        };
-        Ticked {
-            door: closing,
-            transition: DoorTransition::FinishedOpen,
-        }
-    } else {
-        let still_open = DoorState::Open {
-            ticks_remaining: open_remaining - 1,
-            close_duration,
-        };
-        Ticked {
-            door: still_open,
-            transition: DoorTransition::None,
-        }
-    }
-}
-
-fn tick_closing(closing_remaining: u32) -> Ticked
-    ensures { result ≡ tick (DoorState.Closing closing_remaining) }
-{
-    if closing_remaining <= 1 {
-        let closed = DoorState::Closed;
-        Ticked {
-            door: closed,
-            transition: DoorTransition::FinishedClosing,
-        }
-    } else {
-        let still_closing = DoorState::Closing {
-            ticks_remaining: closing_remaining - 1,
-        };
-        Ticked {
-            door: still_closing,
-            transition: DoorTransition::None,
-        }
+        Ticked { door, transition }
     }
 }
 
 // When the phases of a door end: a claim about the definitions, which this function only carries.
+#[tactic(auto, using(crate::proofs::Phases::phases_end))]
 pub fn phases_end() -> bool
     ensures { (result ≡ true) × PhasesEnd }
 {

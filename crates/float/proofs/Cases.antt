@@ -1,15 +1,16 @@
 -- Comparisons with 0 and small laws at each case of a Float. Assumes nothing.
 use mathlib.Core.Path.{◌≡◌, refl}
-use mathlib.Core.Bool.{Bool, true, false, not, ◌&&◌}
+use mathlib.Core.Bool.{Bool, true, false, not, cond}
 use Prim.Native.Nat.{ℕ, zero, suc, ◌+◌, ◌*◌, ◌<◌, ◌^◌}
 use native.Mathlib.Nat.{zero-mul, mul-one, one-mul, mul-pos, pow-suc}
 use native.Mathlib.Omega.{arith}
 use lib.Pow.{pow_pos}
 use lib.IntN.{ℤ, pos, negsuc}
-use lib.Ieee.{Float, nan, inf, fin, binary64, up, down, lt, le, eq, ne, neg, div, is_nan, fits, of_bits}
+use lib.Ieee.{Float, nan, inf, fin, binary64, up, down, lt, le, eq, ne, neg, is_nan, fits, of_bits}
 use lib.Ieee.Fits.{up_pos}
 use borrow.Author.Tests.{ltb-true, ltb-false, lt-ltb, eqb-true, eq-eqb}
-use Rattle.laws.proofs.Bools.{no, yes, and_left}
+use Rattle.std.specs.Float.{NotNan, float_is_finite, is_sign_negative}
+use Rattle.laws.proofs.Bools.{no, and_left}
 use Rattle.float.specs.Float as F64
 
 -- a product with a power of two is 0 only where the other factor is
@@ -48,13 +49,6 @@ zero_exponent s (pos zero) h = refl
 zero_exponent s (pos (suc k)) h = absurd (omega (arith, eqb-true (2 ^ suc k * 1) 1 h, mul-one (2 ^ suc k), pow-suc 2 k, pow_pos k))
 zero_exponent s (negsuc k) h = absurd (omega (arith, eqb-true (1 * 2 ^ suc k) 1 h, one-mul (2 ^ suc k), pow-suc 2 k, pow_pos k))
 
-pub finite_between : (x : Float) → (lt (neg (div binary64 F64.one F64.zero)) x && lt x (div binary64 F64.one F64.zero)) ≡ F64.is_finite x
-unfolding lt div neg of_bits F64.is_finite
-finite_between nan = refl
-finite_between (inf true) = refl
-finite_between (inf false) = refl
-finite_between (fin s m e) = refl
-
 pub eq_self : (x : Float) → eq x x ≡ not (is_nan x)
 unfolding eq is_nan
 eq_self nan = refl
@@ -69,22 +63,35 @@ ne_self nan = refl
 ne_self (inf s) = rw (eq_self (inf s))
 ne_self (fin s m e) = rw (eq_self (fin s m e))
 
--- ---- the sign, at a NaN and elsewhere
+-- ---- the library's methods
 
-pub signum_of_nan : (x : Float) → is_nan x ≡ true → x ≡ F64.signum x
-unfolding is_nan F64.signum
-signum_of_nan nan h = refl
-signum_of_nan (inf s) h = no h
-signum_of_nan (fin s m e) h = no h
+pub signum_is : (x : Float) → F64.signum x ≡ cond (is_nan x) x (cond (is_sign_negative x) (neg F64.one) F64.one)
+unfolding is_nan is_sign_negative neg of_bits F64.signum
+signum_is nan = refl
+signum_is (inf true) = refl
+signum_is (inf false) = refl
+signum_is (fin true m e) = refl
+signum_is (fin false m e) = refl
 
-pub signum_below : (x : Float) → F64.is_sign_negative x ≡ true → neg F64.one ≡ F64.signum x
-unfolding neg of_bits F64.is_sign_negative F64.signum
-signum_below nan h = no h
-signum_below (inf s) h = rw h
-signum_below (fin s m e) h = rw h
+pub sign_is : (x : Float) → is_sign_negative x ≡ F64.is_sign_negative x
+unfolding is_sign_negative F64.is_sign_negative
+sign_is nan = refl
+sign_is (inf s) = refl
+sign_is (fin s m e) = refl
 
-pub signum_above : (x : Float) → is_nan x ≡ false → F64.is_sign_negative x ≡ false → F64.one ≡ F64.signum x
-unfolding is_nan of_bits F64.is_sign_negative F64.signum
-signum_above nan n h = yes n
-signum_above (inf s) n h = rw h
-signum_above (fin s m e) n h = rw h
+pub finite_is : (x : Float) → float_is_finite x ≡ F64.is_finite x
+unfolding float_is_finite F64.is_finite
+finite_is nan = refl
+finite_is (inf s) = refl
+finite_is (fin s m e) = refl
+
+-- what equals a float is a number
+pub equal_number : (x y : Float) → eq x y ≡ true → NotNan y
+unfolding eq is_nan
+equal_number nan y h = no h
+equal_number (inf s) nan h = no h
+equal_number (inf s) (inf r) h = tt
+equal_number (inf s) (fin r n d) h = tt
+equal_number (fin s m e) nan h = no h
+equal_number (fin s m e) (inf r) h = tt
+equal_number (fin s m e) (fin r n d) h = tt

@@ -7,14 +7,14 @@ use native.Mathlib.Omega.{arith}
 use lib.Dec.{T, leb, ltb, eqb, ltb→lt, leb→le, eqb→eq}
 use lib.Pow.{pow_pos, pow-add, pow_mono, pow-lt, shl_lt}
 use lib.IntN.{ℤ, pos, negsuc}
-use lib.Ieee.{Float, nan, inf, fin, binary64, up, down, size, odd, units, round, sum, add, sub, neg, lt, le, is_nan, fits, hid, top, of_bits, to_bits}
-use lib.Ieee.Bits.{of_bits-to_bits, to_bits-lt}
+use lib.Ieee.{Float, nan, inf, fin, binary64, up, down, size, odd, units, round, sum, add, sub, neg, lt, le, fits, hid, top, of_bits, to_bits}
+use lib.Ieee.Bits.{of_bits-to_bits}
 use lib.Ieee.Digits.{back}
 use lib.Ieee.Exact.{HasValue, round_exact}
 use lib.Ieee.Fits.{up_pos, down_pos, round_is, round-fits}
 use lib.Ieee.Nearest.{div_same}
 use lib.Ieee.Order.{transfer}
-use borrow.Author.Tests.{leb-true, leb-false, le-leb, lt-leb, lt-ltb, ltb-false, eq-eqb}
+use borrow.Author.Tests.{leb-true, leb-false, lt-ltb, ltb-false, eq-eqb}
 use Rattle.float.specs.Float as F64
 use Rattle.float.proofs.Cases.{zero_exponent}
 use Rattle.laws.proofs.Bools.{no, yes, holds}
@@ -225,13 +225,3 @@ abs_left x t h = zero_minus x t ∙ go x t (sym (ap (λ (y : Float). lt y x) (ze
     go (fin false (suc m) e) t h =
         let p : 0 < suc m * up e * down e = mul-pos (mul-pos (omega arith) (up_pos e)) (down_pos e) in
         yes (sym (lt-ltb 0 (suc m * up e * down e + suc m * up e * down e) (omega arith)) ∙ h)
-
--- ---- the sign bit
-
-pub sign_bit : (x : Float) → fits binary64 x ≡ true → is_nan x ≡ false → leb (2 ^ 63) (to_bits binary64 x) ≡ F64.is_sign_negative x
-unfolding F64.is_sign_negative is_nan to_bits
-sign_bit nan t h = yes h
-sign_bit (inf true) t h = refl
-sign_bit (inf false) t h = refl
-sign_bit (fin true m e) t h = le-leb (2 ^ 63) (to_bits binary64 (fin true m e)) (omega arith)
-sign_bit (fin false m e) t h = lt-leb (2 ^ 63) (to_bits binary64 (fin false m e)) (omega (arith, to_bits-lt binary64 (fin true m e) (holds (fits_sign true false m e ∙ t))))

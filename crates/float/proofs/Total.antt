@@ -1,18 +1,17 @@
 -- total_cmp's order is a strict total order: by sign first, then by size. Assumes nothing.
 use mathlib.Core.Path.{◌≡◌, refl, sym, subst, ◌∙◌}
-use mathlib.Core.Bool.{Bool, true, false, not, ◌&&◌, ◌||◌, cond, beq}
+use mathlib.Core.Bool.{Bool, true, false, not, ◌&&◌, ◌||◌, cond}
 use Prim.Native.Nat.{ℕ, zero, suc, ◌+◌, ◌*◌, ◌<◌}
-use native.Mathlib.Nat.{mul-pos, mul_right_comm, mul-lt-mul_of_pos_right, lt_of_mul-lt-mul_right, lt_trans}
+use native.Mathlib.Nat.{mul_right_comm, mul-lt-mul_of_pos_right, lt_of_mul-lt-mul_right, lt_trans}
 use native.Mathlib.Omega.{arith}
 use lib.Dec.{ltb, eqb}
-use lib.IntN.{ℤ, pos}
-use lib.Ieee.{Float, nan, inf, fin, binary64, up, down, below, level, lt, eq, is_nan, to_bits}
-use lib.Ieee.Fits.{up_pos, down_pos}
+use lib.IntN.{ℤ}
+use lib.Ieee.{Float, nan, inf, fin, up, down, below, level, lt, eq, is_nan}
+use lib.Ieee.Fits.{down_pos}
 use borrow.Author.Tests.{ltb-true, ltb-false, lt-ltb, le-ltb, eqb-true}
 use Rattle.float.specs.Float as F64
 use Rattle.float.specs.Facts.{IsF64, TotalOrder}
-use Rattle.float.proofs.Cases.{zero_exponent}
-use Rattle.laws.proofs.Bools.{no, yes, holds, and_left, and_right}
+use Rattle.laws.proofs.Bools.{no, yes, holds}
 use Rattle.float.proofs.Rounding.{unique}
 
 -- finite floats: what has a sign first, then by size
@@ -142,62 +141,3 @@ before_same (fin s m e) (fin t n d) f g p q = fin_same s m e t n d f g (sym (bef
 pub total_order : TotalOrder
 unfolding TotalOrder
 total_order = (before_itself, before_trans, before_same)
-
--- ---- the code's tests
-
--- a size that is 0
-null : (m : ℕ) (e d : ℤ) → m * up e * down d ≡ 0 → m ≡ 0
-null zero e d h = refl
-null (suc m) e d h = let p : 0 < suc m * up e * down d = mul-pos (mul-pos (omega arith) (up_pos e)) (down_pos d) in absurd (omega arith)
-
--- finite floats that compare equal have one pattern, or are the two zeros
-alike : (s : Bool) (m : ℕ) (e : ℤ) (n : ℕ) (d : ℤ) → IsF64 (fin s m e) → IsF64 (fin s n d) → m * up e * down d ≡ n * up d * down e
-    → ltb (to_bits binary64 (fin s n d)) (to_bits binary64 (fin s m e)) ≡ (s && not s)
-alike s m e n d t u h =
-    rw (unique s m e n d (holds t) (holds u) h) (le-ltb (to_bits binary64 (fin s n d)) (to_bits binary64 (fin s n d)) (omega arith) ∙ never s)
-  where
-    never : (s : Bool) → false ≡ (s && not s)
-    never true = refl
-    never false = refl
-
-zeros : (s r : Bool) (m : ℕ) (e : ℤ) (n : ℕ) (d : ℤ) → IsF64 (fin s m e) → IsF64 (fin r n d) → m ≡ 0 → n ≡ 0
-    → ltb (to_bits binary64 (fin r n d)) (to_bits binary64 (fin s m e)) ≡ (s && not r)
-unfolding to_bits
-zeros s r (suc m) e n d t u p q = absurd (omega arith)
-zeros s r zero e (suc n) d t u p q = absurd (omega arith)
-zeros s r zero e zero d t u p q = rw (zero_exponent s e t, zero_exponent r d u) (go s r)
-  where
-    go : (s r : Bool) → ltb (to_bits binary64 (fin r 0 (pos 0))) (to_bits binary64 (fin s 0 (pos 0))) ≡ (s && not r)
-    go true true = refl
-    go true false = refl
-    go false true = refl
-    go false false = refl
-
-pub equal_bits : (x y : Float) → IsF64 x → IsF64 y → eq x y ≡ true → ltb (F64.number_bits y) (F64.number_bits x) ≡ (F64.is_sign_negative x && not (F64.is_sign_negative y))
-unfolding F64.number_bits F64.is_sign_negative is_nan eq
-equal_bits nan y t u h = no h
-equal_bits (inf s) nan t u h = no h
-equal_bits (inf true) (inf true) t u h = unfold to_bits in refl
-equal_bits (inf true) (inf false) t u h = no h
-equal_bits (inf false) (inf true) t u h = no h
-equal_bits (inf false) (inf false) t u h = unfold to_bits in refl
-equal_bits (inf s) (fin r n d) t u h = no h
-equal_bits (fin s m e) nan t u h = no h
-equal_bits (fin s m e) (inf r) t u h = no h
-equal_bits (fin s m e) (fin r n d) t u h = go s r t u (and_right (eqb (m * up e * down d) (n * up d * down e)) (beq s r || eqb (m * up e * down d) 0) h)
-  where
-    same : m * up e * down d ≡ n * up d * down e
-    same = eqb-true (m * up e * down d) (n * up d * down e) (and_left (eqb (m * up e * down d) (n * up d * down e)) (beq s r || eqb (m * up e * down d) 0) h)
-
-    apart : (s r : Bool) → IsF64 (fin s m e) → IsF64 (fin r n d) → eqb (m * up e * down d) 0 ≡ true
-        → ltb (to_bits binary64 (fin r n d)) (to_bits binary64 (fin s m e)) ≡ (s && not r)
-    apart s r t u z =
-        let a : m * up e * down d ≡ 0 = eqb-true (m * up e * down d) 0 z in
-        zeros s r m e n d t u (null m e d a) (null n d e (sym same ∙ a))
-
-    go : (s r : Bool) → IsF64 (fin s m e) → IsF64 (fin r n d) → (beq s r || eqb (m * up e * down d) 0) ≡ true
-        → ltb (to_bits binary64 (fin r n d)) (to_bits binary64 (fin s m e)) ≡ (s && not r)
-    go true true t u k = alike true m e n d t u same
-    go false false t u k = alike false m e n d t u same
-    go true false t u k = apart true false t u k
-    go false true t u k = apart false true t u k

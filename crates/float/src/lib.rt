@@ -11,6 +11,7 @@ mod remainder;
 pub const EPSILON: f64 = 1e-9;
 
 // f64::abs. 0 - x is -x exactly, and +0 at either zero.
+// Stays: the library's abs takes two tests, and this a subtraction and one.
 pub fn abs(x: f64) -> f64
     ensures { result ≡ Float.abs x }
 {
@@ -19,13 +20,14 @@ pub fn abs(x: f64) -> f64
 }
 
 // f64::signum
+// Stays: the library's goes by copysign, which compiles to branches.
+#[tactic(auto, using(crate::proofs::Cases::signum_is))]
 pub fn signum(x: f64) -> f64
     ensures { result ≡ Float.signum x }
 {
-    if x != x {
-        return x;
-    }
-    if f64::to_bits(x) >= 0x8000_0000_0000_0000 {
+    if x.is_nan() {
+        x
+    } else if x.is_sign_negative() {
         -1.0
     } else {
         1.0
@@ -33,40 +35,33 @@ pub fn signum(x: f64) -> f64
 }
 
 // f64::is_finite
+#[tactic(auto, using(crate::proofs::Cases::finite_is))]
 pub fn is_finite(x: f64) -> bool
     ensures { result ≡ Float.is_finite x }
 {
-    let infinity = 1.0 / 0.0;
-    (-infinity < x) & (x < infinity)
+    x.is_finite()
 }
 
 // f64::max
+// Stays, as min does: the library's leave open which of two zeros is returned.
+#[tactic(auto, unfolding(crate::specs::Float::max))]
 pub fn max(x: f64, y: f64) -> f64
     ensures { result ≡ Float.max x y }
 {
-    if y != y {
-        x
-    } else if x > y {
-        x
-    } else {
-        y
-    }
+    if y.is_nan() | (x > y) { x } else { y }
 }
 
 // f64::min
+#[tactic(auto, unfolding(crate::specs::Float::min))]
 pub fn min(x: f64, y: f64) -> f64
     ensures { result ≡ Float.min x y }
 {
-    if y != y {
-        x
-    } else if x < y {
-        x
-    } else {
-        y
-    }
+    if y.is_nan() | (x < y) { x } else { y }
 }
 
 // f64::clamp, without its panic.
+// Stays: the library's asks that min is at most max.
+#[tactic(auto, unfolding(crate::specs::Float::clamp))]
 pub fn clamp(x: f64, min: f64, max: f64) -> f64
     ensures { result ≡ Float.clamp x min max }
 {
@@ -75,6 +70,8 @@ pub fn clamp(x: f64, min: f64, max: f64) -> f64
 }
 
 // f64::rem_euclid
+// Stays: the library's is by `%`.
+#[tactic(auto, unfolding(crate::specs::Float::rem_euclid))]
 pub fn rem_euclid(x: f64, rhs: f64) -> f64
     ensures { result ≡ Float.rem_euclid x rhs }
 {
@@ -82,19 +79,23 @@ pub fn rem_euclid(x: f64, rhs: f64) -> f64
     if r < 0.0 { r + abs(rhs) } else { r }
 }
 
-// The bit pattern of a number; 0 at a NaN.
-fn number_bits(x: f64) -> u64
+// f64::to_bits of a number; 0 at a NaN.
+#[tactic(auto, unfolding(crate::specs::Float::number_bits))]
+pub fn number_bits(x: f64) -> u64
     ensures { result ≡ number_bits x }
 {
-    if x != x { 0 } else { f64::to_bits(x) }
+    if x.is_nan() { 0 } else { x.to_bits() }
 }
 
-// Whether f64::total_cmp of x and y is Less, a NaN taken as positive. Of two equal numbers with unlike bits, the zeros, -0 has the greater pattern.
+// Whether f64::total_cmp of x and y is Less, a NaN taken as positive.
+// Stays: the library's total_cmp takes no NaN.
+#[tactic(auto, using(crate::proofs::Cases::sign_is, crate::proofs::Cases::equal_number), unfolding(crate::specs::Float::total_before))]
 pub fn total_before(x: f64, y: f64) -> bool
     ensures { result ≡ Float.total_before x y }
 {
     if x == y {
-        return number_bits(x) > number_bits(y);
+        x.is_sign_negative() & !y.is_sign_negative()
+    } else {
+        (x < y) | !x.is_nan() & y.is_nan()
     }
-    (x < y) | (x == x) & (y != y)
 }

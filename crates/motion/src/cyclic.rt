@@ -4,14 +4,22 @@ ghost use Rattle.motion.specs.Cyclic as Cyclic;
 
 use float::{is_finite, min, rem_euclid};
 
+// Whether there is no circle.
+pub(crate) fn degenerate(circumference: f64) -> bool
+    ensures { result ≡ Cyclic.degenerate circumference }
+{
+    !is_finite(circumference) | (circumference <= 0.0)
+}
+
 // A position brought into [0, circumference); unchanged where there is no circle or the position is not finite.
+#[tactic(auto, using(crate::proofs::Inside::wrap_inside), unfolding(crate::specs::Cyclic::wrap_position))]
 pub fn wrap_position(p: f64, circumference: f64) -> f64
     ensures { result ≡ Cyclic.wrap_position p circumference }
 {
     if (0.0 <= p) & (p < circumference) {
         return p; // it lies in the circle already
     }
-    if !is_finite(circumference) | (circumference <= 0.0) | !is_finite(p) {
+    if degenerate(circumference) | !is_finite(p) {
         return p;
     }
     let r = rem_euclid(p, circumference);
@@ -19,10 +27,11 @@ pub fn wrap_position(p: f64, circumference: f64) -> f64
 }
 
 // The one-way distance ahead from `from` to `to`; 0 where there is no circle or a position is not finite.
+#[tactic(auto, unfolding(crate::specs::Cyclic::forward_distance))]
 pub fn forward_distance(from: f64, to: f64, circumference: f64) -> f64
     ensures { result ≡ Cyclic.forward_distance from to circumference }
 {
-    if !is_finite(circumference) | (circumference <= 0.0) | !is_finite(from) | !is_finite(to) {
+    if degenerate(circumference) | !is_finite(from) | !is_finite(to) {
         return 0.0;
     }
     let from = wrap_position(from, circumference);
@@ -32,10 +41,11 @@ pub fn forward_distance(from: f64, to: f64, circumference: f64) -> f64
 }
 
 // The shorter way between a and b, in either direction.
+#[tactic(auto, unfolding(crate::specs::Cyclic::cyclic_distance))]
 pub fn cyclic_distance(a: f64, b: f64, circumference: f64) -> f64
     ensures { result ≡ Cyclic.cyclic_distance a b circumference }
 {
-    if !is_finite(circumference) | (circumference <= 0.0) {
+    if degenerate(circumference) {
         return 0.0;
     }
     let fwd = forward_distance(a, b, circumference);

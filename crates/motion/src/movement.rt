@@ -2,12 +2,13 @@
 ghost use Rattle.std.specs.Prelude.{◌≡◌};
 ghost use Rattle.motion.specs.Movement as Movement;
 
-use crate::cyclic::{forward_distance, wrap_position};
+use crate::cyclic::{degenerate, forward_distance, wrap_position};
 use float::{EPSILON, abs, is_finite, max, signum};
 use velocity::fp::fma;
 use velocity::new_velocity;
 
 // The distance in which a car brakes to a stop; 0 where the rate is 0 or below.
+#[tactic(auto, unfolding(crate::specs::Movement::braking_distance))]
 pub fn braking_distance(velocity: f64, deceleration: f64) -> f64
     ensures { result ≡ Movement.braking_distance velocity deceleration }
 {
@@ -20,14 +21,27 @@ pub fn braking_distance(velocity: f64, deceleration: f64) -> f64
 
 // What one tick gives.
 #[repr(C)]
-#[derive(Clone, Copy)]
+#[derive(Clone, Copy, PartialEq)]
 pub struct MovementResult {
     pub position: f64,
     pub velocity: f64,
     pub arrived: bool,
 }
 
+// What it gives on arrival.
+fn arrived_at(target: f64) -> MovementResult
+    ensures { result ≡ Movement.arrived_at target }
+{
+    MovementResult {
+        position: target,
+        velocity: 0.0,
+        arrived: true,
+    }
+}
+
 // One tick towards a target on a line.
+// Stays: here and below the parameters are the Rust's, in its order, as the exported functions have them.
+#[tactic(auto, unfolding(crate::specs::Movement::tick_movement))]
 pub fn tick_movement(
     position: f64,
     velocity: f64,
@@ -41,11 +55,7 @@ pub fn tick_movement(
 {
     let displacement = target_position - position;
     if (abs(displacement) < EPSILON) & (abs(velocity) < EPSILON) {
-        return MovementResult {
-            position: target_position,
-            velocity: 0.0,
-            arrived: true,
-        };
+        return arrived_at(target_position);
     }
     let sign = signum(displacement);
     let new_velocity = new_velocity(
@@ -60,11 +70,7 @@ pub fn tick_movement(
     let new_pos = fma(new_velocity, dt, position);
     let new_displacement = target_position - new_pos;
     if (abs(new_displacement) < EPSILON) | (abs(signum(new_displacement) - sign) > EPSILON) {
-        return MovementResult {
-            position: target_position,
-            velocity: 0.0,
-            arrived: true,
-        };
+        return arrived_at(target_position);
     }
     MovementResult {
         position: new_pos,
@@ -74,6 +80,7 @@ pub fn tick_movement(
 }
 
 // One tick towards a target on a loop, forward only, the position wrapped into [0, circumference).
+#[tactic(auto, unfolding(crate::specs::Movement::tick_movement_cyclic))]
 pub fn tick_movement_cyclic(
     position: f64,
     velocity: f64,
@@ -86,7 +93,7 @@ pub fn tick_movement_cyclic(
 ) -> MovementResult
     ensures { result ≡ Movement.tick_movement_cyclic position velocity target_position max_speed acceleration deceleration dt circumference }
 {
-    if !is_finite(circumference) | (circumference <= 0.0) {
+    if degenerate(circumference) {
         return MovementResult {
             position,
             velocity: 0.0,
@@ -106,11 +113,7 @@ pub fn tick_movement_cyclic(
         dt,
     );
     if linear.arrived {
-        return MovementResult {
-            position: target,
-            velocity: 0.0,
-            arrived: true,
-        };
+        return arrived_at(target);
     }
     let new_pos = wrap_position(pos + linear.position, circumference);
     MovementResult {
@@ -121,6 +124,7 @@ pub fn tick_movement_cyclic(
 }
 
 // The target of a trailing car: the intended one, or `min_headway` behind its leader where that comes first.
+#[tactic(auto, unfolding(crate::specs::Movement::headway_clamp_target))]
 pub fn headway_clamp_target(
     trailer_position: f64,
     leader_position: f64,
@@ -130,7 +134,7 @@ pub fn headway_clamp_target(
 ) -> f64
     ensures { result ≡ Movement.headway_clamp_target trailer_position leader_position intended_target min_headway circumference }
 {
-    if !is_finite(circumference) | (circumference <= 0.0) | !is_finite(min_headway) {
+    if degenerate(circumference) | !is_finite(min_headway) {
         return intended_target;
     }
     let trailer = wrap_position(trailer_position, circumference);

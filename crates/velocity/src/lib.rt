@@ -10,6 +10,7 @@ use crate::fp::fma;
 use float::{EPSILON, abs, clamp, max, signum};
 
 // The arm of tick_movement that slows down; 0 where the sign would flip.
+#[tactic(auto, unfolding(crate::specs::Velocity::decelerated))]
 fn decelerated(velocity: f64, safe_decel: f64, dt: f64) -> f64
     ensures { result ≡ Velocity.decelerated velocity safe_decel dt }
 {
@@ -22,6 +23,7 @@ fn decelerated(velocity: f64, safe_decel: f64, dt: f64) -> f64
 }
 
 // The arm of tick_movement that speeds up, to max_speed at most.
+#[tactic(auto, unfolding(crate::specs::Velocity::accelerated))]
 fn accelerated(velocity: f64, sign: f64, max_speed: f64, acceleration: f64, dt: f64) -> f64
     ensures { result ≡ Velocity.accelerated velocity sign max_speed acceleration dt }
 {
@@ -34,6 +36,7 @@ fn accelerated(velocity: f64, sign: f64, max_speed: f64, acceleration: f64, dt: 
 }
 
 // tick_movement's new_velocity, its `sign` and `displacement` given.
+#[tactic(auto, unfolding(crate::specs::Velocity::new_velocity))]
 pub fn new_velocity(
     displacement: f64,
     sign: f64,
@@ -60,6 +63,7 @@ pub fn new_velocity(
 }
 
 // tick_manual's new_vel: the velocity goes towards the manual speed `target`, by rate * dt at most.
+#[tactic(auto, unfolding(crate::specs::Velocity::manual_velocity))]
 pub fn manual_velocity(
     target: f64,
     vel: f64,

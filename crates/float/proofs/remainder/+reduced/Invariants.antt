@@ -1,3 +1,4 @@
+-- The measure of `reduced`: the units that its divisor lacks to be above the size. Assumes nothing.
 use Rattle.float.proofs.Division.{need}
 use Rattle.float.proofs.remainder.+reduced.Given as goal
 
