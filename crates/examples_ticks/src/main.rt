@@ -8,7 +8,7 @@ mod text; // the output, gathered in a buffer
 
 ghost use Rattle.std.specs.Prelude.{◌<◌};
 
-use study_numbers::put;
+use log_writes::put;
 use text::{flush, flush_half};
 
 // The descriptor of standard input.

@@ -3,7 +3,7 @@ ghost use Rattle.std.specs.Prelude.{◌≤◌};
 
 use crate::text::{flush_half, put_digits, put_float, put_number};
 use door::{DoorCommand, DoorState};
-use study_numbers::put;
+use log_writes::put;
 use world::{Car, ElevatorPhase, QueuedCommand, World};
 
 // A word and a space.

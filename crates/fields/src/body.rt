@@ -9,7 +9,7 @@ use float::{abs, is_finite};
 pub fn word_at(words: &[u32], at: usize) -> u32
     ensures { result ≡ get_or words.now at 0 }
 {
-    if at < words.len() { words[at] } else { 0 }
+    words.get(at).copied().unwrap_or(0)
 }
 
 // The float of two halves. `from_bits` is not defined at a NaN's pattern, which with the sign off is above the infinity's.
@@ -18,12 +18,13 @@ fn float_of(high: u32, low: u32) -> f64
 {
     let bits = (high as u64) * 0x1_0000_0000 + (low as u64);
     if bits % 0x8000_0000_0000_0000 > 0x7ff0_0000_0000_0000 {
-        return 0.0 / 0.0;
+        return f64::NAN;
     }
     f64::from_bits(bits)
 }
 
 // The float at word `at`, high half first.
+#[tactic(auto, unfolding(crate::specs::Fields::float_at))]
 pub fn float_at(words: &[u32], at: u8) -> f64
     ensures { result ≡ float_at words.now at }
 {
@@ -32,12 +33,15 @@ pub fn float_at(words: &[u32], at: u8) -> f64
 }
 
 // Whether the two words of a float have no bit set.
+#[tactic(auto, unfolding(crate::specs::Fields::raw_zero_at))]
 pub fn raw_zero_at(words: &[u32], at: u8) -> bool
     ensures { result ≡ raw_zero_at words.now at }
 {
     let high = at as usize;
     (word_at(words, high) == 0) & (word_at(words, high + 1) == 0)
 }
+
+// Stays: the three below are not `contains` of a range, which where `most` is a NaN gives another answer.
 
 // Not finite, or above `most` in size.
 pub fn outside_size(x: f64, most: f64) -> bool

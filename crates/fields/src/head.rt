@@ -10,6 +10,7 @@ pub struct Head {
     pub v: u32,
 }
 
+#[tactic(auto, unfolding(layout::specs::Layout::kind_of, layout::specs::Layout::n_of, layout::specs::Layout::s_of, layout::specs::Layout::v_of))]
 pub fn head_of(word: u32) -> Head
     ensures { result ≡ head_of word }
 {

@@ -19,7 +19,7 @@ use Rattle.report.specs.Report.{Reported}
 use Rattle.report.specs.Report.{counted_report}
 use Rattle.study_text.specs.Text.{words_of, field, report_line, refused_line}
 use Rattle.study_numbers.specs.NumberText.{word_line, word_lines, decimal_to, decimal, text, newline}
-use Rattle.study_numbers.proofs.Putting.{word_line_lem}
+use Rattle.study_numbers.proofs.Digits.{word_line_length}
 use Rattle.play.specs.Play.{told, last_line, ending}
 
 -- ---- words
@@ -53,7 +53,7 @@ words_few (x ∷ y ∷ z ∷ u ∷ b) = omega (arith, words_few b)
 lines_length : (ws : List ℕ) → length (word_lines ws) ≡ 9 * length ws
 unfolding word_lines
 lines_length [] = refl
-lines_length (w ∷ ws) = rw word_line_lem (omega (arith, lines_length ws))
+lines_length (w ∷ ws) = omega (arith, length-append (word_line w) (word_lines ws), word_line_length w, lines_length ws)
 
 decimal_length : (more n : ℕ) → length (decimal_to more n) ≤ suc more
 unfolding decimal_to

@@ -1,5 +1,4 @@
 -- `study_text::put_report` meets its contract. Assumes nothing.
-use borrow.Author.Rules.{rules}
 use Rattle.log_writes.proofs.Writing.{also, wrote_length}
 use Rattle.study_text.specs.Text.{report_line}
 use Rattle.study_text.proofs.put_report.Goals as goal
