@@ -37,20 +37,17 @@ pub fn accepted(world: World) -> Changed
 }
 
 // The row of a car; past the table, that of car 0.
+#[tactic(auto, unfolding(crate::specs::Parts::row_of))]
 pub fn row_of(world: World, car: u8) -> Car
     ensures { result ≡ row_of world car }
 {
-    let at = car as usize;
-    if at < 16 {
-        let row = world.cars[at];
-        return row;
-    }
-    let first = world.cars[0];
-    first
+    let at = if car < 16 { car as usize } else { 0 };
+    world.cars[at]
 }
 
 // What every order to a car comes to: refused before the start, where the car or what else it names is not loaded, and where something hinders it; else
 // the car is as ordered.
+#[tactic(auto, unfolding(crate::specs::Parts::ordered))]
 pub fn ordered(world: World, car: u8, unnamed: bool, hindered: Option<Refusal>, row: Car) -> Changed
     ensures { result ≡ Parts.ordered world car unnamed hindered row }
 {
@@ -58,10 +55,7 @@ pub fn ordered(world: World, car: u8, unnamed: bool, hindered: Option<Refusal>, 
         return refused(world, Refusal::NotNow);
     }
     let at = car as usize;
-    if 16 <= at {
-        return refused(world, Refusal::NotLoaded);
-    }
-    if unloaded(world.car_count, car) | unnamed {
+    if (16 <= at) | unloaded(world.car_count, car) | unnamed {
         return refused(world, Refusal::NotLoaded);
     }
     match hindered {
@@ -75,6 +69,7 @@ pub fn ordered(world: World, car: u8, unnamed: bool, hindered: Option<Refusal>, 
 }
 
 // Kind D.
+#[tactic(auto, unfolding(crate::specs::Changes::start))]
 pub fn start(world: World) -> Changed
     ensures { result ≡ Changes.start world }
 {

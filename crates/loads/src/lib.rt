@@ -11,6 +11,7 @@ use world::refusal::Refusal;
 use world::{CarPlan, Line, LineKind, Rider, World};
 
 // Kind 2.
+#[tactic(auto, unfolding(crate::specs::Loads::load_stop))]
 pub fn load_stop(world: World, number: u8, position: f64) -> Changed
     ensures { result ≡ Loads.load_stop world number position }
 {
@@ -18,15 +19,12 @@ pub fn load_stop(world: World, number: u8, position: f64) -> Changed
         return refused(world, Refusal::NotNow);
     }
     let at = number as usize;
-    if 64 <= at {
+    if (64 <= at) | (at != world.stop_count) {
         return refused(world, Refusal::NotNext);
     }
     let mut next = world;
     next.stops[at] = position;
     next.stop_count = at + 1;
-    if at != world.stop_count {
-        return refused(world, Refusal::NotNext); // the given world: the height is in `next` alone
-    }
     accepted(next)
 }
 
@@ -39,14 +37,12 @@ fn count_with(count: usize, number: u8) -> usize
 }
 
 // Kind 4.
+#[tactic(auto, unfolding(crate::specs::Loads::load_rider))]
 pub fn load_rider(world: World, number: u8, rider: Rider) -> Changed
     ensures { result ≡ Loads.load_rider world number rider }
 {
     let at = number as usize;
-    if 128 <= at {
-        return refused(world, Refusal::NotNext);
-    }
-    if world.rider_count < at {
+    if (128 <= at) | (world.rider_count < at) {
         return refused(world, Refusal::NotNext);
     }
     if rider_broken(world.stop_count, world.car_count, rider) {
@@ -59,6 +55,7 @@ pub fn load_rider(world: World, number: u8, rider: Rider) -> Changed
 }
 
 // Kind 3.
+#[tactic(auto, unfolding(crate::specs::Loads::load_car))]
 pub fn load_car(world: World, number: u8, plan: CarPlan) -> Changed
     ensures { result ≡ Loads.load_car world number plan }
 {
@@ -66,23 +63,20 @@ pub fn load_car(world: World, number: u8, plan: CarPlan) -> Changed
         return refused(world, Refusal::NotNow);
     }
     let at = number as usize;
-    if 16 <= at {
-        return refused(world, Refusal::NotNext);
-    }
-    if at != world.car_count {
+    if (16 <= at) | (at != world.car_count) {
         return refused(world, Refusal::NotNext);
     }
     if unloaded(world.line_count, plan.line) {
         return refused(world, Refusal::NotLoaded);
     }
     let mut next = world;
-    let car = new_car(plan);
-    next.cars[at] = car;
+    next.cars[at] = new_car(plan);
     next.car_count = at + 1;
     accepted(next)
 }
 
 // Kind 1.
+#[tactic(auto, unfolding(crate::specs::Loads::load_line))]
 pub fn load_line(
     world: World,
     number: u8,
@@ -97,10 +91,7 @@ pub fn load_line(
         return refused(world, Refusal::NotNow);
     }
     let at = number as usize;
-    if 8 <= at {
-        return refused(world, Refusal::NotNext);
-    }
-    if at != world.line_count {
+    if (8 <= at) | (at != world.line_count) {
         return refused(world, Refusal::NotNext);
     }
     let row = Line {

@@ -5,18 +5,17 @@ ghost use Rattle.std.specs.Prelude.{◌≡◌};
 ghost use Rattle.modes.specs.Modes as Modes;
 
 use changes::{Changed, ordered, row_of};
-use world::with::with_orders;
-use world::{ServiceMode, World};
+use world::{Car, ServiceMode, World};
 
 // Kind 6.
 pub fn set_mode(world: World, car: u8, mode: ServiceMode) -> Changed
     ensures { result ≡ Modes.set_mode world car mode }
 {
     let row = row_of(world, car);
-    let phase = row.phase;
-    let target = row.target_stop;
-    let speed = row.manual_target_velocity;
-    let next = with_orders(row, phase, mode, row.repositioning, target, speed);
+    let next = Car {
+        service_mode: mode,
+        ..row
+    };
     ordered(world, car, false, None, next)
 }
 
@@ -25,10 +24,10 @@ pub fn set_manual_speed(world: World, car: u8, speed: Option<f64>) -> Changed
     ensures { result ≡ Modes.set_manual_speed world car speed }
 {
     let row = row_of(world, car);
-    let phase = row.phase;
-    let mode = row.service_mode;
-    let target = row.target_stop;
-    let next = with_orders(row, phase, mode, row.repositioning, target, speed);
+    let next = Car {
+        manual_target_velocity: speed,
+        ..row
+    };
     ordered(world, car, false, None, next)
 }
 
@@ -36,7 +35,7 @@ pub fn set_manual_speed(world: World, car: u8, speed: Option<f64>) -> Changed
 pub fn set_enabled(world: World, car: u8, enabled: bool) -> Changed
     ensures { result ≡ Modes.set_enabled world car enabled }
 {
-    let mut row = row_of(world, car);
-    row.enabled = enabled;
-    ordered(world, car, false, None, row)
+    let row = row_of(world, car);
+    let next = Car { enabled, ..row };
+    ordered(world, car, false, None, next)
 }

@@ -13,15 +13,7 @@ use world::{Car, ElevatorPhase, World};
 fn can_go(phase: ElevatorPhase) -> bool
     ensures { result ≡ Orders.can_go phase }
 {
-    match phase {
-        ElevatorPhase::Idle => true,
-        ElevatorPhase::MovingToStop(_) => false,
-        ElevatorPhase::Repositioning(_) => false,
-        ElevatorPhase::DoorOpening => false,
-        ElevatorPhase::Loading => false,
-        ElevatorPhase::DoorClosing => false,
-        ElevatorPhase::Stopped => true,
-    }
+    matches!(phase, ElevatorPhase::Idle | ElevatorPhase::Stopped)
 }
 
 fn sent(car: Car, stop: u8, reposition: bool) -> Car

@@ -20,13 +20,13 @@ pub fn queue_command(world: World, car: u8, command: DoorCommand) -> Changed
     if 8 <= commands {
         return ordered(world, car, false, Some(Refusal::QueueFull), row);
     }
-    let queued = QueuedCommand { command };
-    row.door_command_queue[commands] = queued;
+    row.door_command_queue[commands] = QueuedCommand { command };
     row.command_count = commands + 1;
     ordered(world, car, false, None, row)
 }
 
 // Kind 9.
+#[tactic(auto, unfolding(crate::specs::Requests::press_hall_call))]
 pub fn press_hall_call(world: World, stop: u8, down: bool) -> Changed
     ensures { result ≡ Requests.press_hall_call world stop down }
 {
@@ -39,9 +39,9 @@ pub fn press_hall_call(world: World, stop: u8, down: bool) -> Changed
     let mut next = world;
     if down {
         next.down_calls = pressed(world.down_calls, stop);
-        return accepted(next);
+    } else {
+        next.up_calls = pressed(world.up_calls, stop);
     }
-    next.up_calls = pressed(world.up_calls, stop);
     accepted(next)
 }
 

@@ -1,10 +1,9 @@
 // Refusal 0: whether a lent world has a count, a queue, a counter or a number that records never make.
 #![tactic(auto)]
 
-ghost use Rattle.std.specs.Prelude.{◌≡◌, ℕ, ◌≤◌, ◌^◌, leb};
-ghost use Rattle.world.specs.World.{line_at, car_at, rider_at};
+ghost use Rattle.std.specs.Prelude.{◌≡◌};
+ghost use Rattle.std.specs.List.{list_any};
 ghost use Rattle.sound_rows.specs.Rows as Rows;
-ghost use Rattle.sound_rows.specs.Rows.{any_to};
 ghost use Rattle.sound.specs.Sound as Sound;
 ghost use Rattle.sound.specs.Parts as Parts;
 
@@ -20,45 +19,25 @@ fn calls_unloaded(stops: usize, calls: u64) -> bool
     1u64 << stops <= calls
 }
 
-fn lines_broken(stops: usize, lines: [Line; 8], count: usize) -> bool
-    requires { count ≤ 8 }
-    ensures { result ≡ any_to (λ i. Rows.line_broken stops (line_at lines i)) count }
+fn lines_broken(stops: usize, lines: &[Line]) -> bool
+    ensures { result ≡ list_any (λ line. Rows.line_broken stops line) lines.now }
 {
-    let mut found = false;
-    let mut i: usize = 0;
-    while i < count {
-        found = found | line_broken(stops, lines[i]);
-        i += 1;
-    }
-    found
+    lines.iter().any(|line| line_broken(stops, *line))
 }
 
-fn cars_broken(lines: usize, stops: usize, cars: [Car; 16], count: usize) -> bool
-    requires { count ≤ 16 }
-    ensures { result ≡ any_to (λ i. Rows.car_broken lines stops (car_at cars i)) count }
+fn cars_broken(lines: usize, stops: usize, cars: &[Car]) -> bool
+    ensures { result ≡ list_any (λ car. Rows.car_broken lines stops car) cars.now }
 {
-    let mut found = false;
-    let mut i: usize = 0;
-    while i < count {
-        found = found | car_broken(lines, stops, cars[i]);
-        i += 1;
-    }
-    found
+    cars.iter().any(|car| car_broken(lines, stops, *car))
 }
 
-fn riders_broken(stops: usize, cars: usize, riders: [Rider; 128], count: usize) -> bool
-    requires { count ≤ 128 }
-    ensures { result ≡ any_to (λ i. Rows.rider_broken stops cars (rider_at riders i)) count }
+fn riders_broken(stops: usize, cars: usize, riders: &[Rider]) -> bool
+    ensures { result ≡ list_any (λ rider. Rows.rider_broken stops cars rider) riders.now }
 {
-    let mut found = false;
-    let mut i: usize = 0;
-    while i < count {
-        found = found | rider_broken(stops, cars, riders[i]);
-        i += 1;
-    }
-    found
+    riders.iter().any(|rider| rider_broken(stops, cars, *rider))
 }
 
+#[tactic(auto, unfolding(crate::specs::Sound::counts_broken))]
 fn counts_broken(world: World) -> bool
     ensures { result ≡ Sound.counts_broken world }
 {
@@ -71,6 +50,7 @@ fn counts_broken(world: World) -> bool
 }
 
 // Refusal 0 but for the cars.
+#[tactic(auto, unfolding(crate::specs::Parts::rest_broken))]
 pub fn rest_broken(world: World) -> bool
     ensures { result ≡ Parts.rest_broken world }
 {
@@ -78,15 +58,10 @@ pub fn rest_broken(world: World) -> bool
         return true;
     }
     let stops = world.stop_count;
-    let lines = world.lines;
-    let found = lines_broken(stops, lines, world.line_count)
+    lines_broken(stops, &world.lines[..world.line_count])
         | calls_unloaded(stops, world.up_calls)
-        | calls_unloaded(stops, world.down_calls);
-    if world.rider_count == 0 {
-        return found; // the riders are not copied
-    }
-    let riders = world.riders;
-    found | riders_broken(stops, world.car_count, riders, world.rider_count)
+        | calls_unloaded(stops, world.down_calls)
+        | riders_broken(stops, world.car_count, &world.riders[..world.rider_count])
 }
 
 // Refusal 0.
@@ -96,6 +71,9 @@ pub fn broken(world: World) -> bool
     if rest_broken(world) {
         return true;
     }
-    let cars = world.cars;
-    cars_broken(world.line_count, world.stop_count, cars, world.car_count)
+    cars_broken(
+        world.line_count,
+        world.stop_count,
+        &world.cars[..world.car_count],
+    )
 }

@@ -4,51 +4,37 @@ ghost use Rattle.world.specs.Refusal.{refusal_number};
 
 #[derive(Clone, Copy, PartialEq, Eq)]
 pub enum Refusal {
-    // 0: a lent world with a count, a queue, a counter or a number that records never make
-    BrokenWorld,
-    // 1: no word, or a body cut short
-    CutShort,
-    // 2: kind 0, E or F
-    UnknownKind,
-    // 3: a field outside its codes or number range, or an unused bit set
-    FieldOutside,
-    // 4: a float not finite or outside its range
-    FloatOutside,
-    // 5: from the report alone: a log word of kind B to F
-    LogKind,
-    // 6: a kind before or after start where it does not belong
-    NotNow,
-    // 7: a record's own number that is not the next unused one; of a rider, one above it
-    NotNext,
-    // 8: a car, stop or line named but not loaded
-    NotLoaded,
-    // 9: a send to a car that is disabled, or neither Idle nor Stopped
-    CannotGo,
-    // 10: a queue that holds 8
-    QueueFull,
-    // 11: the last tick has been made
-    LastTick,
-    // 12: a log that is too short
-    LogShort,
+    // a lent world with a count, a queue, a counter or a number that records never make
+    BrokenWorld = 0,
+    // no word, or a body cut short
+    CutShort = 1,
+    // kind 0, E or F
+    UnknownKind = 2,
+    // a field outside its codes or number range, or an unused bit set
+    FieldOutside = 3,
+    // a float not finite or outside its range
+    FloatOutside = 4,
+    // from the report alone: a log word of kind B to F
+    LogKind = 5,
+    // a kind before or after start where it does not belong
+    NotNow = 6,
+    // a record's own number that is not the next unused one; of a rider, one above it
+    NotNext = 7,
+    // a car, stop or line named but not loaded
+    NotLoaded = 8,
+    // a send to a car that is disabled, or neither Idle nor Stopped
+    CannotGo = 9,
+    // a queue that holds 8
+    QueueFull = 10,
+    // the last tick has been made
+    LastTick = 11,
+    // a log that is too short
+    LogShort = 12,
 }
 
 // The paper's number.
 pub fn number(refusal: Refusal) -> u32
     ensures { result ≡ refusal_number refusal }
 {
-    match refusal {
-        Refusal::BrokenWorld => 0,
-        Refusal::CutShort => 1,
-        Refusal::UnknownKind => 2,
-        Refusal::FieldOutside => 3,
-        Refusal::FloatOutside => 4,
-        Refusal::LogKind => 5,
-        Refusal::NotNow => 6,
-        Refusal::NotNext => 7,
-        Refusal::NotLoaded => 8,
-        Refusal::CannotGo => 9,
-        Refusal::QueueFull => 10,
-        Refusal::LastTick => 11,
-        Refusal::LogShort => 12,
-    }
+    refusal as u32
 }

@@ -12,4 +12,4 @@ pub returns : goal.returns
 unfolding ordered set_mode
 returns c =
     let a = c.args in
-    by_row_alone a.world a.car (λ (x : Car). accepted (with_car a.world a.car (in_mode x a.mode))) (c.ordered.ensures ∙ rw (c.with_orders-next.ensures, c.row_of-row.ensures))
+    by_row_alone a.world a.car (λ (x : Car). accepted (with_car a.world a.car (in_mode x a.mode))) (c.ordered.ensures ∙ rw c.row_of-row.ensures)
