@@ -3,7 +3,7 @@
 
 ghost use Rattle.std.specs.Prelude.{◌≡◌, Ok};
 ghost use Rattle.float.specs.Float.{number_bits};
-ghost use Rattle.record.specs.Record.{used_of, written_of};
+ghost use Rattle.record.specs.Record.{Gives, record_of, used_of, written_of};
 ghost use Rattle.laws.specs.Numbers.{plus};
 ghost use Rattle.world.specs.World.{empty_world};
 ghost use Rattle.beside_ticks.specs.Bench as Bench;
@@ -11,7 +11,6 @@ ghost use Rattle.beside_ticks.specs.Bench as Bench;
 use float::number_bits;
 use lent::turn;
 use record::{Accepted, Answer, Recorded, record};
-use std::num::wrapping_add_u64;
 use world::empty::empty;
 use world::{Car, World};
 
@@ -47,45 +46,42 @@ fn nothing() -> Recorded
     Recorded { answer, world }
 }
 
-// By the call that takes the world by value. What it made stays where it is, and its world is handed to the next call.
-fn by_value(words: &[u32], log: &mut [u32], records: u64) -> Played
-    ensures { Bench.Reached (Bench.played_to words.now log.old records) result.world log.new result.used result.written }
-{
-    let end = words.len();
-    let mut made = nothing();
-    let mut used: usize = 0;
-    let mut written: u64 = 0;
-    let mut i: u64 = 0;
-    while i < records {
-        made = record(made.world, &words[used..end], log);
-        let answer = made.answer;
-        used += used_of(answer);
-        written = wrapping_add_u64(written, written_of(answer) as u64);
-        i += 1;
-    }
-    let world = made.world;
-    Played {
-        world,
-        used,
-        written,
+// A record call of the library.
+trait RecordCall {
+    fn call(world: World, words: &[u32], log: &mut [u32]) -> Recorded
+        ensures { Gives result log.new (record_of world words.now log.old) };
+}
+
+// The call that takes the world by value.
+struct ByValue;
+
+impl RecordCall for ByValue {
+    fn call(world: World, words: &[u32], log: &mut [u32]) -> Recorded {
+        record(world, words, log)
     }
 }
 
-// By the call that is lent the world, likewise.
-fn by_lending(words: &[u32], log: &mut [u32], records: u64) -> Played
+// The call that is lent the world.
+struct ByLending;
+
+impl RecordCall for ByLending {
+    fn call(world: World, words: &[u32], log: &mut [u32]) -> Recorded {
+        turn(world, words, log)
+    }
+}
+
+// So many records. What a call made stays where it is, and its world is handed to the next call.
+fn play<C: RecordCall>(words: &[u32], log: &mut [u32], records: u64) -> Played
     ensures { Bench.Reached (Bench.played_to words.now log.old records) result.world log.new result.used result.written }
 {
-    let end = words.len();
     let mut made = nothing();
     let mut used: usize = 0;
     let mut written: u64 = 0;
-    let mut i: u64 = 0;
-    while i < records {
-        made = turn(made.world, &words[used..end], log);
+    for i in 0..records {
+        made = C::call(made.world, &words[used..], log);
         let answer = made.answer;
         used += used_of(answer);
-        written = wrapping_add_u64(written, written_of(answer) as u64);
-        i += 1;
+        written = written.wrapping_add(written_of(answer) as u64);
     }
     let world = made.world;
     Played {
@@ -98,20 +94,15 @@ fn by_lending(words: &[u32], log: &mut [u32], records: u64) -> Played
 fn sum(car: Car) -> u64
     ensures { result ≡ plus (number_bits car.motion.position) (number_bits car.motion.velocity) }
 {
-    wrapping_add_u64(
-        number_bits(car.motion.position),
-        number_bits(car.motion.velocity),
-    )
+    number_bits(car.motion.position).wrapping_add(number_bits(car.motion.velocity))
 }
 
 fn sum_of_cars(cars: [Car; 16]) -> u64
     ensures { result ≡ Bench.sum_to cars 16 }
 {
     let mut total: u64 = 0;
-    let mut i: usize = 0;
-    while i < 16 {
-        total = wrapping_add_u64(total, sum(cars[i]));
-        i += 1;
+    for i in 0..16 {
+        total = total.wrapping_add(sum(cars[i]));
     }
     total
 }
@@ -122,8 +113,8 @@ fn sum_of(played: Played) -> u64
 {
     let world = played.world;
     let cars = world.cars;
-    let moves = wrapping_add_u64(world.total_moves, played.written);
-    wrapping_add_u64(sum_of_cars(cars), moves)
+    let moves = world.total_moves.wrapping_add(played.written);
+    sum_of_cars(cars).wrapping_add(moves)
 }
 
 // So many records of the tape by the by-value call.
@@ -132,7 +123,7 @@ pub extern "C" fn bench_records(words: &[u32], records: u64) -> u64
     ensures { result ≡ Bench.bench_records words.now records }
 {
     let mut log = [0u32; 2048];
-    sum_of(by_value(words, &mut log, records))
+    sum_of(play::<ByValue>(words, &mut log, records))
 }
 
 // The same by the lent call.
@@ -141,5 +132,5 @@ pub extern "C" fn bench_lent_records(words: &[u32], records: u64) -> u64
     ensures { result ≡ Bench.bench_records words.now records }
 {
     let mut log = [0u32; 2048];
-    sum_of(by_lending(words, &mut log, records))
+    sum_of(play::<ByLending>(words, &mut log, records))
 }

@@ -13,7 +13,7 @@ use Rattle.door.specs.declared.DoorState.TheVariants.{Closed, Opening, Open, Clo
 use Rattle.world.specs.World.{car_at}
 use Rattle.world.specs.declared.World.{World}
 use Rattle.world.specs.declared.Car.{Car}
-use Rattle.world.specs.declared.QueuedCommand.{QueuedCommand}
+use Rattle.door.specs.declared.DoorCommand.{DoorCommand}
 use Rattle.world.specs.declared.ElevatorPhase.{ElevatorPhase}
 use Rattle.world.specs.declared.ElevatorPhase.TheVariants.{Idle, MovingToStop, Repositioning, DoorOpening, Loading, DoorClosing, Stopped}
 use Rattle.std.specs.declared.option.Option.{Option}
@@ -143,10 +143,10 @@ words_told : (n : ℕ) (o : Bool) (c : Car) (at traversing : Bool) (i m : ℕ) �
 unfolding work_words_to
 words_told n o c at traversing i zero = told_none n o
 words_told n o c at traversing i (suc m) =
-    let q : QueuedCommand = queued c at traversing m in
+    let q : DoorCommand = queued c at traversing m in
     told_join (words_told n o c at traversing i m)
     (both (Told n o o) (tried_on c at traversing (work_to c at traversing m) q).applied
-    (told_dull n o 10 i (code_of q.command) (ticks_of q.command) refl refl refl) (told_none n o))
+    (told_dull n o 10 i (code_of q) (ticks_of q) refl refl refl) (told_none n o))
 
 -- ---- the door's tick
 

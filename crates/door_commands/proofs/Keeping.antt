@@ -7,7 +7,6 @@ use Rattle.door.specs.declared.DoorState.TheVariants.{Closed, Opening, Open, Clo
 use Rattle.door.specs.declared.DoorCommand.{DoorCommand}
 use Rattle.door.specs.declared.DoorCommand.TheVariants as Command
 use Rattle.world.specs.declared.Car.{Car}
-use Rattle.world.specs.declared.QueuedCommand.{QueuedCommand}
 use Rattle.world.specs.declared.ElevatorPhase.{ElevatorPhase}
 use Rattle.world.specs.declared.ElevatorPhase.TheVariants.{Idle, MovingToStop, Repositioning, DoorOpening, Loading, DoorClosing, Stopped}
 use Rattle.laws.proofs.Choices.{both}
@@ -85,8 +84,8 @@ module _
     work_keeps zero h = h
     work_keeps (suc n) h =
         let k : Work = work_to c here traversing n in
-        let q : QueuedCommand = queued c here traversing n in
-        let t : Keeps (tried_on c here traversing k q) = try_keeps q.command k.phase k.door (work_keeps n h) in
+        let q : DoorCommand = queued c here traversing n in
+        let t : Keeps (tried_on c here traversing k q) = try_keeps q k.phase k.door (work_keeps n h) in
         both (λ (x : Work). Has x.phase x.door) (tried_on c here traversing k q).applied t t
 
     pub commands_keep : Has c.phase c.door → Has (process_door_commands c here traversing).phase (process_door_commands c here traversing).door

@@ -4,7 +4,7 @@ ghost use Rattle.std.specs.Prelude.{◌≤◌};
 use crate::text::{flush_half, put_digits, put_float, put_number};
 use door::{DoorCommand, DoorState};
 use log_writes::put;
-use world::{Car, ElevatorPhase, QueuedCommand, World};
+use world::{Car, ElevatorPhase, World};
 
 // A word and a space.
 fn put_word(out: &mut [u8], at: usize, word: u32) -> usize {
@@ -118,8 +118,7 @@ fn put_destinations(out: &mut [u8], at: usize, queue: &[u8; 8], count: usize) ->
 }
 
 // A command's code and ticks, five digits.
-fn put_command(out: &mut [u8], at: usize, queued: QueuedCommand) -> usize {
-    let command = queued.command;
+fn put_command(out: &mut [u8], at: usize, command: DoorCommand) -> usize {
     match command {
         DoorCommand::Open => put_digits(out, at, 0x00000, 5),
         DoorCommand::Close => put_digits(out, at, 0x10000, 5),
@@ -129,7 +128,7 @@ fn put_command(out: &mut [u8], at: usize, queued: QueuedCommand) -> usize {
 }
 
 // 'q' and the door commands.
-fn put_commands(out: &mut [u8], at: usize, queue: [QueuedCommand; 8], count: usize) -> usize {
+fn put_commands(out: &mut [u8], at: usize, queue: [DoorCommand; 8], count: usize) -> usize {
     let end = count.min(8);
     let mut to = put(out, at, b'q');
     let mut i: usize = 0;

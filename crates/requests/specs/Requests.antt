@@ -16,7 +16,7 @@ use Rattle.changes.specs.Changes.{refused, accepted, no_such_car}
 abbrev pub commanded : Car → DoorCommand → Car
 commanded c command =
     with_orders c c.phase c.service_mode c.enabled c.repositioning c.target_stop c.manual_target_velocity
-    c.destination_queue c.destination_count (set c.door_command_queue c.command_count (record { command = command })) (c.command_count + 1)
+    c.destination_queue c.destination_count (set c.door_command_queue c.command_count command) (c.command_count + 1)
 
 abbrev pub command_checks : World → ℕ → List Check
 command_checks w car =

@@ -9,7 +9,7 @@ use changes::{Changed, accepted, ordered, refused, row_of};
 use door::DoorCommand;
 use sound_rows::unloaded;
 use world::refusal::Refusal;
-use world::{QueuedCommand, World};
+use world::World;
 
 // Kind 8.
 pub fn queue_command(world: World, car: u8, command: DoorCommand) -> Changed
@@ -20,7 +20,7 @@ pub fn queue_command(world: World, car: u8, command: DoorCommand) -> Changed
     if 8 <= commands {
         return ordered(world, car, false, Some(Refusal::QueueFull), row);
     }
-    row.door_command_queue[commands] = QueuedCommand { command };
+    row.door_command_queue[commands] = command;
     row.command_count = commands + 1;
     ordered(world, car, false, None, row)
 }

@@ -10,7 +10,7 @@ use Rattle.motion.specs.declared.movement.MovementResult.{MovementResult}
 use Rattle.world.specs.World.{car_at}
 use Rattle.world.specs.declared.World.{World}
 use Rattle.world.specs.declared.Car.{Car}
-use Rattle.world.specs.declared.QueuedCommand.{QueuedCommand}
+use Rattle.door.specs.declared.DoorCommand.{DoorCommand}
 use Rattle.world.specs.declared.LineKind.{LineKind}
 use Rattle.std.specs.declared.option.Option.{Option}
 use Rattle.steps.specs.declared.JustOpened.{JustOpened}
@@ -168,9 +168,9 @@ module _ (c : Car) (at_stop traversing : Bool) (i : ℕ) where
   unfolding work_words_to
   works_quiet zero = quiet_none
   works_quiet (suc n) =
-      let q : QueuedCommand = queued c at_stop traversing n in
+      let q : DoorCommand = queued c at_stop traversing n in
       quiet_more (omega arith)
-      (quiet_join (works_quiet n) (quiet_if (tried_on c at_stop traversing (work_to c at_stop traversing n) q).applied 10 i (code_of q.command) (ticks_of q.command) refl))
+      (quiet_join (works_quiet n) (quiet_if (tried_on c at_stop traversing (work_to c at_stop traversing n) q).applied 10 i (code_of q) (ticks_of q) refl))
 
   commands_quiet : Quiet 8 (command_words c at_stop traversing i)
   unfolding command_words

@@ -8,7 +8,7 @@ use Rattle.world.specs.declared.Lamps.{Lamps}
 use Rattle.world.specs.declared.Car.{Car}
 use Rattle.world.specs.declared.Line.{Line}
 use Rattle.world.specs.declared.Rider.{Rider}
-use Rattle.world.specs.declared.QueuedCommand.{QueuedCommand}
+use Rattle.door.specs.declared.DoorCommand.{DoorCommand}
 use Rattle.world.specs.declared.ElevatorPhase.{ElevatorPhase}
 use Rattle.world.specs.declared.ServiceMode.{ServiceMode}
 
@@ -114,7 +114,7 @@ with_ticks w ticks = record {
 -- ---- a car
 
 -- its orders: phase, mode, enabled mark, repositioning flag, target, manual speed, the two queues
-abbrev pub with_orders : Car → ElevatorPhase → ServiceMode → Bool → Bool → Option ℕ → Option Float → List ℕ → ℕ → List QueuedCommand → ℕ → Car
+abbrev pub with_orders : Car → ElevatorPhase → ServiceMode → Bool → Bool → Option ℕ → Option Float → List ℕ → ℕ → List DoorCommand → ℕ → Car
 with_orders c phase mode enabled repositioning target speed destinations m commands n = record {
   line = c.line;
   phase = phase;
@@ -197,7 +197,7 @@ with_arrived c phase door target repositioning lamps queue cooldown = record {
 }
 
 -- a car after its door's turn: its phase, door, target, lamps and command queue
-abbrev pub with_door : Car → ElevatorPhase → DoorState → Option ℕ → Lamps → Bool → List QueuedCommand → ℕ → Car
+abbrev pub with_door : Car → ElevatorPhase → DoorState → Option ℕ → Lamps → Bool → List DoorCommand → ℕ → Car
 with_door c phase door target lamps forward commands count = record {
   line = c.line;
   phase = phase;

@@ -10,7 +10,7 @@ use Rattle.world.specs.declared.CarPlan.{CarPlan}
 use Rattle.world.specs.declared.Line.{Line}
 use Rattle.world.specs.declared.Rider.{Rider}
 use Rattle.world.specs.declared.Motion.{Motion}
-use Rattle.world.specs.declared.QueuedCommand.{QueuedCommand}
+use Rattle.door.specs.declared.DoorCommand.{DoorCommand}
 use Rattle.world.specs.declared.LineKind.TheVariants.{Linear}
 use Rattle.world.specs.declared.ElevatorPhase.TheVariants.{Idle}
 use Rattle.world.specs.declared.ServiceMode.TheVariants.{Normal}
@@ -29,8 +29,8 @@ no_motion = record {
   inspection_speed_factor = nan;
 }
 
-abbrev pub no_command : QueuedCommand
-no_command = record { command = Command.Open }
+abbrev pub no_command : DoorCommand
+no_command = Command.Open
 
 abbrev pub no_car : Car
 no_car = record {

@@ -3,7 +3,7 @@ ghost use Rattle.std.specs.Prelude.{◌≡◌};
 ghost use Rattle.world.specs.World.{new_car, empty_car, empty_world};
 
 use crate::{
-    Car, CarPlan, ElevatorPhase, Line, LineKind, Motion, QueuedCommand, Rider, RiderPhase,
+    Car, CarPlan, ElevatorPhase, Line, LineKind, Motion, Rider, RiderPhase,
     ServiceMode, World,
 };
 use door::{DoorCommand, DoorState};
@@ -12,10 +12,6 @@ use door::{DoorCommand, DoorState};
 pub fn new_car(plan: CarPlan) -> Car
     ensures { result ≡ new_car plan }
 {
-    let command = QueuedCommand {
-        command: DoorCommand::Open,
-    };
-    let commands = [command; 8];
     let motion = plan.motion;
     Car {
         line: plan.line,
@@ -34,7 +30,7 @@ pub fn new_car(plan: CarPlan) -> Car
         manual_target_velocity: None,
         destination_queue: [0u8; 8],
         destination_count: 0,
-        door_command_queue: commands,
+        door_command_queue: [DoorCommand::Open; 8],
         command_count: 0,
         move_count: 0,
         cooldown: None,

@@ -60,12 +60,6 @@ pub enum ServiceMode {
     OutOfService,
 }
 
-// An entry of a door command queue.
-#[derive(Clone, Copy)]
-pub struct QueuedCommand {
-    pub command: DoorCommand,
-}
-
 // What a car's record says of it: its line, its motion and its door's times.
 #[derive(Clone, Copy)]
 pub struct CarPlan {
@@ -95,7 +89,7 @@ pub struct Car {
     pub manual_target_velocity: Option<f64>,
     pub destination_queue: [u8; 8],
     pub destination_count: usize,
-    pub door_command_queue: [QueuedCommand; 8],
+    pub door_command_queue: [DoorCommand; 8],
     pub command_count: usize,
     pub move_count: u64,
     pub cooldown: Option<u64>,

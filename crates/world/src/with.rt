@@ -2,8 +2,8 @@
 ghost use Rattle.std.specs.Prelude.{◌≡◌};
 ghost use Rattle.world.specs.With as With;
 
-use crate::{Car, ElevatorPhase, Lamps, Queue, QueuedCommand, ServiceMode};
-use door::DoorState;
+use crate::{Car, ElevatorPhase, Lamps, Queue, ServiceMode};
+use door::{DoorCommand, DoorState};
 
 // A car with another phase, mode, repositioning flag, target and manual speed.
 pub fn with_orders(
@@ -62,7 +62,7 @@ pub fn with_door(
     target: Option<u8>,
     lamps: Lamps,
     going_forward: bool,
-    commands: [QueuedCommand; 8],
+    commands: [DoorCommand; 8],
     count: usize,
 ) -> Car
     ensures { result ≡ With.with_door car phase door target lamps going_forward commands count }

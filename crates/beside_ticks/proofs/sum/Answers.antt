@@ -5,4 +5,4 @@ use Rattle.beside_ticks.proofs.sum.Goals as goal
 
 pub returns : goal.returns
 unfolding plus
-returns c = rw (c.wrapping_add_u64.ensures.value, c.number_bits.ensures, c.number_bits-2.ensures)
+returns c = rw (c.number_bits.ensures, c.number_bits-2.ensures)

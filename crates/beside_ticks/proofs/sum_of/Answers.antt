@@ -6,4 +6,4 @@ use Rattle.beside_ticks.proofs.sum_of.Goals as goal
 
 pub returns : goal.returns
 unfolding sum_of plus
-returns c = rw (c.wrapping_add_u64.ensures.value, c.sum_of_cars.ensures, c.wrapping_add_u64-moves.ensures.value)
+returns c = rw c.sum_of_cars.ensures

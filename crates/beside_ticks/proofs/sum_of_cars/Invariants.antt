@@ -6,6 +6,3 @@ use Rattle.beside_ticks.proofs.sum_of_cars.Given as goal
 
 abbrev pub invariant-loop-i : goal.invariant-loop-i
 invariant-loop-i l = (l.i ≤ 16) × (l.total ≡ sum_to l.cars l.i)
-
-abbrev pub decreases-loop-i : goal.decreases-loop-i
-decreases-loop-i l = 16 - l.i
