@@ -5,153 +5,87 @@
 use door::{DoorState, DoorTransition};
 use motion::cyclic::{cyclic_distance, forward_distance, wrap_position};
 use motion::movement::headway_clamp_target;
+use std::io;
 
-// The descriptor of standard output.
-const STDOUT: i32 = 1;
-
-fn print(text: &[u8]) {
-    io::write_all(STDOUT, text);
+fn outcome(got: f64, expected: f64) -> &'static str {
+    if got == expected { "ok" } else { "DIFFERS" }
 }
 
-// One line: the example, and whether `got` is `expected`.
-fn show(example: &[u8], got: f64, expected: f64) {
-    print(example);
-    if got == expected {
-        print(b": ok\n");
-    } else {
-        print(b": DIFFERS\n");
-    }
-}
-
-fn print_end(tick: u64, transition: DoorTransition) {
-    match transition {
-        DoorTransition::None => {}
-        DoorTransition::FinishedOpening => print_tick(tick),
-        DoorTransition::FinishedOpen => print_tick(tick),
-        DoorTransition::FinishedClosing => print_tick(tick),
-    }
-}
-
-fn print_tick(tick: u64) {
-    print(b" ");
-    io::print_decimal(STDOUT, tick);
+// Document 01's.
+fn formulas(rt: &impl Print) -> io::Result<()> {
+    let wrapped = wrap_position(3.0, 0.0);
+    println!(rt; "wrap(3, 0) = 3: {}", outcome(wrapped, 3.0))?;
+    let forward = forward_distance(8.0, 3.0, 10.0);
+    println!(rt; "forward(8, 3, 10) = 5: {}", outcome(forward, 5.0))?;
+    let clamped = headway_clamp_target(0.0, 2.0, 9.0, 3.0, 10.0);
+    println!(rt;
+        "headway (trailer 0, leader 2, target 9, headway 3, circle 10) = 0: {}",
+        outcome(clamped, 0.0)
+    )
 }
 
 // The ticks, of the first twelve, at which a phase ends.
-fn print_ends(transition_ticks: u32, open_ticks: u32) {
-    let mut door = DoorState::request_open(transition_ticks, open_ticks);
-    let mut tick = 0u64;
-    while tick < 12 {
-        tick += 1;
+fn phase_ends(rt: &impl Print) -> io::Result<()> {
+    print!(rt; "request_open(3, 2) ends phases at ticks 3, 5, 8:")?;
+    let mut door = DoorState::request_open(3, 2);
+    for tick in 1..=12 {
         let ticked = door.tick();
-        let transition = ticked.transition;
         door = ticked.door;
-        print_end(tick, transition);
+        if !matches!(ticked.transition, DoorTransition::None) {
+            print!(rt; " {tick}")?;
+        }
     }
-    print(b"\n");
-}
-
-fn main() {
-    show(b"wrap(3, 0) = 3", wrap_position(3.0, 0.0), 3.0);
-    show(
-        b"forward(8, 3, 10) = 5",
-        forward_distance(8.0, 3.0, 10.0),
-        5.0,
-    );
-    show(
-        b"headway (trailer 0, leader 2, target 9, headway 3, circle 10) = 0",
-        headway_clamp_target(0.0, 2.0, 9.0, 3.0, 10.0),
-        0.0,
-    );
-    print(b"request_open(3, 2) ends phases at ticks 3, 5, 8:");
-    print_ends(3, 2);
-    wraps();
-    forward_distances();
-    cyclic_distances();
+    println!(rt; "")
 }
 
 // The examples of cyclic.rs: what its pages assert.
-fn wraps() {
-    show(b"wrap_position(0, 100) = 0", wrap_position(0.0, 100.0), 0.0);
-    show(
-        b"wrap_position(50, 100) = 50",
-        wrap_position(50.0, 100.0),
-        50.0,
-    );
-    show(
-        b"wrap_position(100, 100) = 0",
-        wrap_position(100.0, 100.0),
-        0.0,
-    );
-    show(
-        b"wrap_position(125, 100) = 25",
-        wrap_position(125.0, 100.0),
-        25.0,
-    );
-    show(
-        b"wrap_position(-25, 100) = 75",
-        wrap_position(-25.0, 100.0),
-        75.0,
-    );
-    show(
-        b"wrap_position(-100, 100) = 0",
-        wrap_position(-100.0, 100.0),
-        0.0,
-    );
+fn wraps(rt: &impl Print) -> io::Result<()> {
+    for (position, expected) in [
+        (0.0, 0.0),
+        (50.0, 50.0),
+        (100.0, 0.0),
+        (125.0, 25.0),
+        (-25.0, 75.0),
+        (-100.0, 0.0),
+    ] {
+        let outcome = outcome(wrap_position(position, 100.0), expected);
+        println!(rt; "wrap_position({position}, 100) = {expected}: {outcome}")?;
+    }
+    Ok(())
 }
 
-fn forward_distances() {
-    show(
-        b"forward_distance(10, 30, 100) = 20",
-        forward_distance(10.0, 30.0, 100.0),
-        20.0,
-    );
-    show(
-        b"forward_distance(90, 10, 100) = 20",
-        forward_distance(90.0, 10.0, 100.0),
-        20.0,
-    );
-    show(
-        b"forward_distance(50, 50, 100) = 0",
-        forward_distance(50.0, 50.0, 100.0),
-        0.0,
-    );
-    show(
-        b"forward_distance(0, 99, 100) = 99",
-        forward_distance(0.0, 99.0, 100.0),
-        99.0,
-    );
-    show(
-        b"forward_distance(110, 30, 100) = 20",
-        forward_distance(110.0, 30.0, 100.0),
-        20.0,
-    );
-    show(
-        b"forward_distance(-10, 30, 100) = 40",
-        forward_distance(-10.0, 30.0, 100.0),
-        40.0,
-    );
+fn forward_distances(rt: &impl Print) -> io::Result<()> {
+    for (from, to, expected) in [
+        (10.0, 30.0, 20.0),
+        (90.0, 10.0, 20.0),
+        (50.0, 50.0, 0.0),
+        (0.0, 99.0, 99.0),
+        (110.0, 30.0, 20.0),
+        (-10.0, 30.0, 40.0),
+    ] {
+        let outcome = outcome(forward_distance(from, to, 100.0), expected);
+        println!(rt; "forward_distance({from}, {to}, 100) = {expected}: {outcome}")?;
+    }
+    Ok(())
 }
 
-fn cyclic_distances() {
-    show(
-        b"cyclic_distance(10, 30, 100) = 20",
-        cyclic_distance(10.0, 30.0, 100.0),
-        20.0,
-    );
-    show(
-        b"cyclic_distance(90, 10, 100) = 20",
-        cyclic_distance(90.0, 10.0, 100.0),
-        20.0,
-    );
-    show(
-        b"cyclic_distance(0, 50, 100) = 50",
-        cyclic_distance(0.0, 50.0, 100.0),
-        50.0,
-    );
-    show(
-        b"cyclic_distance(0, 51, 100) = 49",
-        cyclic_distance(0.0, 51.0, 100.0),
-        49.0,
-    );
+fn cyclic_distances(rt: &impl Print) -> io::Result<()> {
+    for (a, b, expected) in [
+        (10.0, 30.0, 20.0),
+        (90.0, 10.0, 20.0),
+        (0.0, 50.0, 50.0),
+        (0.0, 51.0, 49.0),
+    ] {
+        let outcome = outcome(cyclic_distance(a, b, 100.0), expected);
+        println!(rt; "cyclic_distance({a}, {b}, 100) = {expected}: {outcome}")?;
+    }
+    Ok(())
+}
+
+fn main(rt: HostRuntime) -> io::Result<()> {
+    formulas(&rt)?;
+    phase_ends(&rt)?;
+    wraps(&rt)?;
+    forward_distances(&rt)?;
+    cyclic_distances(&rt)
 }

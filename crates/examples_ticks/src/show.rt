@@ -1,226 +1,200 @@
 // What is printed of a tick: a line of its words, a line a car, a line with the counters and the hall calls.
-ghost use Rattle.std.specs.Prelude.{◌≤◌};
+ghost use Rattle.std.specs.Prelude.{◌<◌};
 
-use crate::text::{flush_half, put_digits, put_float, put_number};
 use door::{DoorCommand, DoorState};
-use log_writes::put;
+use std::fmt;
 use world::{Car, ElevatorPhase, World};
 
-// A word and a space.
-fn put_word(out: &mut [u8], at: usize, word: u32) -> usize {
-    let to = put_digits(out, at, word as u64, 8);
-    put(out, to, b' ')
+// A number in one digit, 8 or 16.
+#[derive(Drop)]
+struct Number(u64);
+
+impl fmt::Display for Number {
+    fn fmt<W: fmt::Write>(&self, f: &mut fmt::Formatter<W>) -> fmt::Result {
+        let number = self.0;
+        match number {
+            0..=0xf => write!(f, "{number:x}"),
+            0x10..=0xffff_ffff => write!(f, "{number:08x}"),
+            _ => write!(f, "{number:016x}"),
+        }
+    }
 }
 
-// The log's first words.
-fn put_words(out: &mut [u8], at: usize, log: &[u32], count: usize) -> usize {
-    let end = count.min(log.len());
-    let mut to = at;
-    let mut i: usize = 0;
-    while i < end {
-        to = put_word(out, to, log[i]);
-        i += 1;
+// A float's bits. Any NaN is the positive quiet one.
+fn bits(x: f64) -> u64 {
+    if x.is_nan() {
+        0x7ff8_0000_0000_0000
+    } else {
+        x.to_bits()
     }
-    put(out, to, b'\n')
+}
+
+// A value, or a dash where there is none.
+#[derive(Drop)]
+struct OrDash<T>(Option<T>);
+
+impl<T: fmt::Display> fmt::Display for OrDash<T> {
+    fn fmt<W: fmt::Write>(&self, f: &mut fmt::Formatter<W>) -> fmt::Result {
+        match &self.0 {
+            Some(value) => write!(f, "{value}"),
+            None => write!(f, "-"),
+        }
+    }
+}
+
+#[derive(Drop)]
+struct Stop(u8);
+
+impl fmt::Display for Stop {
+    fn fmt<W: fmt::Write>(&self, f: &mut fmt::Formatter<W>) -> fmt::Result {
+        write!(f, "{:02x}", self.0)
+    }
 }
 
 // The phase's number in the Rust's order, and its stop.
-fn put_phase(out: &mut [u8], at: usize, phase: ElevatorPhase) -> usize {
-    match phase {
-        ElevatorPhase::Idle => put(out, at, b'0'),
-        ElevatorPhase::MovingToStop(stop) => put_digits(out, at, 0x100 + stop as u64, 3),
-        ElevatorPhase::Repositioning(stop) => put_digits(out, at, 0x200 + stop as u64, 3),
-        ElevatorPhase::DoorOpening => put(out, at, b'3'),
-        ElevatorPhase::Loading => put(out, at, b'4'),
-        ElevatorPhase::DoorClosing => put(out, at, b'5'),
-        ElevatorPhase::Stopped => put(out, at, b'6'),
+#[derive(Drop)]
+struct Phase(ElevatorPhase);
+
+impl fmt::Display for Phase {
+    fn fmt<W: fmt::Write>(&self, f: &mut fmt::Formatter<W>) -> fmt::Result {
+        match self.0 {
+            ElevatorPhase::Idle => write!(f, "0"),
+            ElevatorPhase::MovingToStop(stop) => write!(f, "1{}", Stop(stop)),
+            ElevatorPhase::Repositioning(stop) => write!(f, "2{}", Stop(stop)),
+            ElevatorPhase::DoorOpening => write!(f, "3"),
+            ElevatorPhase::Loading => write!(f, "4"),
+            ElevatorPhase::DoorClosing => write!(f, "5"),
+            ElevatorPhase::Stopped => write!(f, "6"),
+        }
     }
 }
 
-// A comma and a number.
-fn put_ticks(out: &mut [u8], at: usize, ticks: u32) -> usize {
-    let to = put(out, at, b',');
-    put_number(out, to, ticks as u64)
+fn ticks(count: u32) -> Number {
+    Number(count.into())
 }
 
 // The door's number in the Rust's order, and its fields.
-fn put_door(out: &mut [u8], at: usize, door: DoorState) -> usize {
-    match door {
-        DoorState::Closed => put(out, at, b'0'),
-        DoorState::Opening {
-            ticks_remaining,
-            open_duration,
-            close_duration,
-        } => {
-            let first = put(out, at, b'1');
-            let second = put_ticks(out, first, ticks_remaining);
-            let third = put_ticks(out, second, open_duration);
-            put_ticks(out, third, close_duration)
-        }
-        DoorState::Open {
-            ticks_remaining,
-            close_duration,
-        } => {
-            let first = put(out, at, b'2');
-            let second = put_ticks(out, first, ticks_remaining);
-            put_ticks(out, second, close_duration)
-        }
-        DoorState::Closing { ticks_remaining } => {
-            let first = put(out, at, b'3');
-            put_ticks(out, first, ticks_remaining)
+#[derive(Drop)]
+struct Door(DoorState);
+
+impl fmt::Display for Door {
+    fn fmt<W: fmt::Write>(&self, f: &mut fmt::Formatter<W>) -> fmt::Result {
+        match self.0 {
+            DoorState::Closed => write!(f, "0"),
+            DoorState::Opening {
+                ticks_remaining,
+                open_duration,
+                close_duration,
+            } => write!(
+                f,
+                "1,{},{},{}",
+                ticks(ticks_remaining),
+                ticks(open_duration),
+                ticks(close_duration)
+            ),
+            DoorState::Open {
+                ticks_remaining,
+                close_duration,
+            } => write!(f, "2,{},{}", ticks(ticks_remaining), ticks(close_duration)),
+            DoorState::Closing { ticks_remaining } => write!(f, "3,{}", ticks(ticks_remaining)),
         }
     }
-}
-
-fn bit(mark: bool) -> u64
-    ensures { result ≤ 1 }
-{
-    if mark { 1 } else { 0 }
 }
 
 // The lamps up, down and forward and the repositioning flag, as one digit.
-fn put_marks(
-    out: &mut [u8],
-    at: usize,
-    up: bool,
-    down: bool,
-    forward: bool,
-    reposition: bool,
-) -> usize {
-    put_number(
-        out,
-        at,
-        8 * bit(up) + 4 * bit(down) + 2 * bit(forward) + bit(reposition),
-    )
+fn marks(car: &Car) -> u8
+    ensures { result < 16 }
+{
+    8 * u8::from(car.going_up)
+        + 4 * u8::from(car.going_down)
+        + 2 * u8::from(car.going_forward)
+        + u8::from(car.repositioning)
 }
 
-fn put_stop(out: &mut [u8], at: usize, stop: u8) -> usize {
-    put_digits(out, at, stop as u64, 2)
-}
+// The stops that a car goes to.
+#[derive(Drop)]
+struct Destinations<'a>(&'a Car);
 
-fn put_target(out: &mut [u8], at: usize, target: Option<u8>) -> usize {
-    match target {
-        None => put(out, at, b'-'),
-        Some(stop) => put_stop(out, at, stop),
+impl fmt::Display for Destinations<'_> {
+    fn fmt<W: fmt::Write>(&self, f: &mut fmt::Formatter<W>) -> fmt::Result {
+        let car = self.0;
+        for stop in car.destination_queue.iter().take(car.destination_count) {
+            write!(f, "{}", Stop(*stop))?;
+        }
+        Ok(())
     }
 }
 
-// 'd' and the destinations.
-fn put_destinations(out: &mut [u8], at: usize, queue: &[u8; 8], count: usize) -> usize {
-    let end = count.min(8);
-    let mut to = put(out, at, b'd');
-    let mut i: usize = 0;
-    while i < end {
-        to = put_stop(out, to, queue[i]);
-        i += 1;
-    }
-    to
-}
+// A car's door commands: each a code and its ticks, five digits.
+#[derive(Drop)]
+struct Commands<'a>(&'a Car);
 
-// A command's code and ticks, five digits.
-fn put_command(out: &mut [u8], at: usize, command: DoorCommand) -> usize {
-    match command {
-        DoorCommand::Open => put_digits(out, at, 0x00000, 5),
-        DoorCommand::Close => put_digits(out, at, 0x10000, 5),
-        DoorCommand::HoldOpen { ticks } => put_digits(out, at, 0x20000 + ticks as u64, 5),
-        DoorCommand::CancelHold => put_digits(out, at, 0x30000, 5),
+impl fmt::Display for Commands<'_> {
+    fn fmt<W: fmt::Write>(&self, f: &mut fmt::Formatter<W>) -> fmt::Result {
+        let car = self.0;
+        for command in car.door_command_queue.iter().take(car.command_count) {
+            match *command {
+                DoorCommand::Open => write!(f, "00000")?,
+                DoorCommand::Close => write!(f, "10000")?,
+                DoorCommand::HoldOpen { ticks } => write!(f, "2{ticks:04x}")?,
+                DoorCommand::CancelHold => write!(f, "30000")?,
+            }
+        }
+        Ok(())
     }
 }
 
-// 'q' and the door commands.
-fn put_commands(out: &mut [u8], at: usize, queue: [DoorCommand; 8], count: usize) -> usize {
-    let end = count.min(8);
-    let mut to = put(out, at, b'q');
-    let mut i: usize = 0;
-    while i < end {
-        to = put_command(out, to, queue[i]);
-        i += 1;
+// A car's line: position, velocity, phase, door; marks, target, destinations, door commands; moves, cooldown.
+#[derive(Drop)]
+struct CarLine<'a>(&'a Car);
+
+impl fmt::Display for CarLine<'_> {
+    fn fmt<W: fmt::Write>(&self, f: &mut fmt::Formatter<W>) -> fmt::Result {
+        let car = self.0;
+        write!(
+            f,
+            "{:016x} {:016x} {} {} ",
+            bits(car.motion.position),
+            bits(car.motion.velocity),
+            Phase(car.phase),
+            Door(car.door)
+        )?;
+        write!(
+            f,
+            "{:x} {} d{} q{} ",
+            marks(car),
+            OrDash(car.target_stop.map(Stop)),
+            Destinations(car),
+            Commands(car)
+        )?;
+        write!(f, "{} {}", Number(car.move_count), OrDash(car.cooldown.map(Number)))
     }
-    to
 }
 
-fn put_cooldown(out: &mut [u8], at: usize, cooldown: Option<u64>) -> usize {
-    match cooldown {
-        None => put(out, at, b'-'),
-        Some(tick) => put_number(out, at, tick),
+// A tick: the words that it wrote, and the world after it.
+#[derive(Drop)]
+pub(crate) struct Tick<'a> {
+    pub(crate) words: &'a [u32],
+    pub(crate) world: &'a World,
+}
+
+impl fmt::Display for Tick<'_> {
+    fn fmt<W: fmt::Write>(&self, f: &mut fmt::Formatter<W>) -> fmt::Result {
+        let world = self.world;
+        for word in self.words {
+            write!(f, "{word:08x} ")?;
+        }
+        writeln!(f, "")?;
+        for car in world.cars.iter().take(world.car_count) {
+            writeln!(f, "{}", CarLine(car))?;
+        }
+        writeln!(
+            f,
+            "{} {:016x} {} {}",
+            Number(world.total_moves),
+            bits(world.reposition_distance),
+            Number(world.up_calls),
+            Number(world.down_calls)
+        )
     }
-}
-
-// Position, velocity, phase, door.
-fn put_motion(out: &mut [u8], at: usize, car: Car) -> usize {
-    let phase = car.phase;
-    let door = car.door;
-    let mut to = put_float(out, at, car.motion.position);
-    to = put(out, to, b' ');
-    to = put_float(out, to, car.motion.velocity);
-    to = put(out, to, b' ');
-    to = put_phase(out, to, phase);
-    to = put(out, to, b' ');
-    put_door(out, to, door)
-}
-
-// Marks, target, destinations, door commands.
-fn put_work(out: &mut [u8], at: usize, car: Car) -> usize {
-    let target = car.target_stop;
-    let destinations = car.destination_queue;
-    let commands = car.door_command_queue;
-    let mut to = put(out, at, b' ');
-    to = put_marks(
-        out,
-        to,
-        car.going_up,
-        car.going_down,
-        car.going_forward,
-        car.repositioning,
-    );
-    to = put(out, to, b' ');
-    to = put_target(out, to, target);
-    to = put(out, to, b' ');
-    to = put_destinations(out, to, &destinations, car.destination_count);
-    to = put(out, to, b' ');
-    put_commands(out, to, commands, car.command_count)
-}
-
-// A car's line.
-fn put_car(out: &mut [u8], at: usize, car: Car) -> usize {
-    let cooldown = car.cooldown;
-    let mut to = put_motion(out, at, car);
-    to = put_work(out, to, car);
-    to = put(out, to, b' ');
-    to = put_number(out, to, car.move_count);
-    to = put(out, to, b' ');
-    to = put_cooldown(out, to, cooldown);
-    put(out, to, b'\n')
-}
-
-fn put_cars(out: &mut [u8], at: usize, cars: [Car; 16], count: usize) -> usize {
-    let end = count.min(16);
-    let mut to = at;
-    let mut i: usize = 0;
-    while i < end {
-        to = put_car(out, to, cars[i]);
-        i += 1;
-    }
-    to
-}
-
-// Total moves, reposition distance, hall calls up and down.
-fn put_totals(out: &mut [u8], at: usize, world: World) -> usize {
-    let mut to = put_number(out, at, world.total_moves);
-    to = put(out, to, b' ');
-    to = put_float(out, to, world.reposition_distance);
-    to = put(out, to, b' ');
-    to = put_number(out, to, world.up_calls);
-    to = put(out, to, b' ');
-    to = put_number(out, to, world.down_calls);
-    put(out, to, b'\n')
-}
-
-// A tick's lines. A tick has less text than half the buffer.
-pub fn put_tick(out: &mut [u8], at: usize, log: &[u32], count: usize, world: World) -> usize {
-    let cars = world.cars;
-    let mut to = flush_half(out, at);
-    to = put_words(out, to, log, count);
-    to = put_cars(out, to, cars, world.car_count);
-    put_totals(out, to, world)
 }

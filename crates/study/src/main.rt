@@ -28,10 +28,9 @@ impl fmt::Display for Failure {
 
 // Writes the buffer's first bytes.
 fn flush<W: Write>(output: &mut W, out: &[u8], at: usize) -> Result<(), Failure> {
-    match output.write_all(&out[..at.min(out.len())]) {
-        Ok(()) => Ok(()),
-        Err(_) => Err(Failure::Output),
-    }
+    output
+        .write_all(&out[..at.min(out.len())])
+        .map_err(|_| Failure::Output)
 }
 
 // What is at hand of the input: so many bytes of the piece, and whether there is an end to it.
@@ -48,13 +47,11 @@ fn with_read<R: Read>(
     held: usize,
 ) -> Result<Input, Failure> {
     let from = held.min(piece.len());
-    match source.read(&mut piece[from..]) {
-        Ok(count) => Ok(Input {
-            held: from + count,
-            ended: count == 0,
-        }),
-        Err(_) => Err(Failure::Input),
-    }
+    let count = source.read(&mut piece[from..]).map_err(|_| Failure::Input)?;
+    Ok(Input {
+        held: from + count,
+        ended: count == 0,
+    })
 }
 
 // Reads once where the bytes that are kept may end within a record.
@@ -69,12 +66,11 @@ fn with_input<R: Read>(
     with_read(source, piece, input.held)
 }
 
-// The study after a round, what is at hand of the input, and whether another round follows: none after the report or a refusal.
+// The study after a round, and what is at hand of the input.
 #[derive(Clone, Copy)]
 struct Round {
     study: Study,
     input: Input,
-    goes_on: bool,
 }
 
 // A round: more input where it is wanted, what is done with it, the text written out.
@@ -95,11 +91,10 @@ fn with_round<R: Read, W: Write>(
             held: made.held,
             ended: input.ended,
         },
-        goes_on: !made.study.over,
     })
 }
 
-// All rounds. No run makes more.
+// All rounds: none follows the report or a refusal. No run makes more.
 fn run<R: Read, W: Write>(source: &mut R, output: &mut W) -> Result<(), Failure> {
     let mut piece = [0u8; 16384];
     let mut log = [0u32; 2048];
@@ -110,11 +105,10 @@ fn run<R: Read, W: Write>(source: &mut R, output: &mut W) -> Result<(), Failure>
             held: 0,
             ended: false,
         },
-        goes_on: true,
     };
     for _ in 0..u64::MAX {
         round = with_round(source, output, round, &mut piece, &mut log, &mut out)?;
-        if !round.goes_on {
+        if round.study.over {
             return Ok(());
         }
     }

@@ -1,12 +1,9 @@
--- What the loops keep.
-use mathlib.Core.Path.{◌≡◌}
-use Prim.Native.Nat.{◌≤◌, ◌-◌}
-use lib.ListN.{length}
-use borrow.Author.Rules.{rules}
+-- The loop over a tape's records: each accepted one takes a word at least.
+use Rattle.std.proofs.Common.{◌≡◌, ◌≤◌, length}
 use Rattle.examples_ticks.proofs.play.play.Given as goal
 
-abbrev pub invariant-loop-records : goal.invariant-loop-records
-invariant-loop-records l = (l.from ≤ l.end) × ((l.end ≤ length l.words) × ((l.records ≤ 8192) × ((length l.log ≡ length l.initial.log) × (length l.out ≡ length l.initial.out))))
+abbrev pub invariant-loop-rest : goal.invariant-loop-rest
+invariant-loop-rest g l = (length l.log ≡ length l.initial.log) × (length l.rest ≤ length l.tape)
 
-abbrev pub decreases-loop-records : goal.decreases-loop-records
-decreases-loop-records l = 8192 - l.records
+abbrev pub decreases-loop-rest : goal.decreases-loop-rest
+decreases-loop-rest g l = length l.rest
