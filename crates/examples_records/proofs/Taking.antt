@@ -5,7 +5,8 @@ use Rattle.conditions.specs.Conditions.{Kept, FirstCondition}
 use Rattle.conditions.proofs.Answering.{first_condition}
 use Rattle.record.specs.Record.{Gives, record_of}
 use Rattle.record.specs.declared.Recorded.{Recorded}
-use Rattle.record.specs.declared.Answer.TheVariants.{Accepted}
+use Rattle.std.specs.Prelude.{Ok}
+use Rattle.record.specs.declared.Accepted.{Accepted}
 use Rattle.world.specs.declared.World.{World}
 
 pub record Takes (words log : List ℕ) (n m : ℕ) : Type 0 where
@@ -21,7 +22,7 @@ module _ (w : World) (words lent : List ℕ) {log : List ℕ} {made : Recorded} 
   same_length : length log ≡ length lent
   same_length = ap length g.log ∙ kept.size
 
-  pub takes : {used written : ℕ} → made.answer ≡ Accepted used written → Takes words log used written
+  pub takes : {a : Accepted} → made.answer ≡ Ok a → Takes words log a.used a.written
   takes e = record {
     some = (rw (← g.answer, e) at kept.some) refl;
     within = rw (← g.answer, e) at kept.used;
