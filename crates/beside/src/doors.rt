@@ -1,8 +1,9 @@
-// The door on plain numbers, since an export takes no enum.
+// The door on plain numbers.
+// Stays: C's interface takes no enum, so a state is a number there and a door's fields are parameters.
 
 ghost use Rattle.std.specs.Prelude.{◌≡◌};
 ghost use Rattle.door.specs.Door.{request_open, tick, is_open, is_closed};
-ghost use Rattle.beside.specs.Doors.{door_of, transition_number, words, words_of, tick_words};
+ghost use Rattle.beside.specs.Doors.{door_of, words, words_of, tick_words};
 
 use door::{DoorState, DoorTransition};
 
@@ -39,9 +40,7 @@ pub extern "C" fn door_tick(
     ensures { result ≡ tick_words (door_of state ticks_remaining open_duration close_duration) }
 {
     let ticked = door_of(state, ticks_remaining, open_duration, close_duration).tick();
-    let door = ticked.door;
-    let transition = ticked.transition;
-    words_of(door, transition)
+    words_of(ticked.door, ticked.transition)
 }
 
 #[unsafe(no_mangle)]
@@ -128,17 +127,6 @@ fn words(
         ticks_remaining,
         open_duration,
         close_duration,
-        transition: transition_number(transition),
-    }
-}
-
-fn transition_number(transition: DoorTransition) -> u32
-    ensures { result ≡ transition_number transition }
-{
-    match transition {
-        DoorTransition::None => 0,
-        DoorTransition::FinishedOpening => 1,
-        DoorTransition::FinishedOpen => 2,
-        DoorTransition::FinishedClosing => 3,
+        transition: transition as u32,
     }
 }

@@ -1,12 +1,21 @@
 -- A bit of a number: what it leaves room for. Assumes nothing.
 use mathlib.Core.Path.{◌≡◌, refl, ap, ◌∙◌}
-use mathlib.Core.Bool.{true, false}
+use mathlib.Core.Bool.{Bool, true, false, cond}
 use Prim.Native.Nat.{ℕ, zero, suc, ◌+◌, ◌-◌, ◌*◌, ◌/◌, ◌%◌, ◌<◌, ◌≤◌, ◌^◌}
-use native.Mathlib.Nat.{div-add-mod', mod-lt, mul-le-mul_right, div-lt_iff_lt-mul, pow-suc, add-mul, one-mul, div-eq_of_lt, mod-eq_of_lt}
+use native.Mathlib.Nat.{div-add-mod', mod-lt, mul-le-mul_right, div-lt_iff_lt-mul, pow-suc, add-mul, zero-mul, one-mul, div-eq_of_lt, mod-eq_of_lt}
 use native.Mathlib.Omega.{arith}
+use lib.Dec.{eqb}
 use lib.Pow.{pow_pos, pow-add, pow_mono, pow-lt}
 use borrow.Author.Tests.{eqb-true, eqb-false}
+use Rattle.std.specs.Int.{bit_at}
+use Rattle.std.specs.Int.RustNames.{bit_and, bit_or}
+use Rattle.std.proofs.lemmas.Nat.{or_disjoint, and-not, and_comm}
+use Rattle.std.proofs.lemmas.Nat.Bits.{shr_and_one, and_pow, bit_at-lt, bit_at_or, bit_at-pow_same, bit_at-pow_other, same_from_bits}
 use Rattle.call_sets.specs.Calls.{called}
+
+pub either : {A : Type 0} (b : Bool) → (b ≡ true → A) → (b ≡ false → A) → A
+either true f g = f refl
+either false f g = g refl
 
 -- a set bit is at most the number
 pub bit_held : (calls s : ℕ) → called calls s ≡ true → 2 ^ s ≤ calls
@@ -58,3 +67,41 @@ pub bit_of : (s : ℕ) → s < 64 → 1 * 2 ^ s % 2 ^ 64 ≡ 2 ^ s
 bit_of s l =
     let h : 1 * 2 ^ s < 2 ^ 64 = omega (arith, pow-lt {i = s} {j = 64} l, one-mul (2 ^ s)) in
     mod-eq_of_lt h ∙ one-mul (2 ^ s)
+
+-- ---- what the code's bit operators give
+
+pub read_bit : (calls s : ℕ) → called calls s ≡ eqb (bit_and (calls / 2 ^ s) 1) 1
+unfolding called
+read_bit calls s = rw (shr_and_one calls s)
+
+-- a bit is 0 or 1, and `called` says which
+at_true : (calls s : ℕ) → called calls s ≡ true → bit_at calls s ≡ 1
+unfolding called
+at_true calls s h = eqb-true (bit_at calls s) 1 h
+
+at_false : (calls s : ℕ) → called calls s ≡ false → bit_at calls s ≡ 0
+unfolding called
+at_false calls s h = let l = bit_at-lt calls s in let ne = eqb-false (bit_at calls s) 1 h in omega arith
+
+pub set_bit : (calls s : ℕ) → s < 64 → bit_or calls (1 * 2 ^ s % 2 ^ 64) ≡ cond (called calls s) calls (calls + 2 ^ s)
+set_bit calls s l = rw (bit_of s l) (go (called calls s) refl)
+  where
+    go : (t : Bool) → called calls s ≡ t → bit_or calls (2 ^ s) ≡ cond t calls (calls + 2 ^ s)
+    go false h = or_disjoint calls (2 ^ s) (rw (and_pow calls s, at_false calls s h, zero-mul))
+    go true h = same_from_bits (bit_or calls (2 ^ s)) calls at
+      where
+        at : (i : ℕ) → bit_at (bit_or calls (2 ^ s)) i ≡ bit_at calls i
+        at i = either (eqb i s)
+            (λ e. rw (eqb-true i s e, bit_at_or calls (2 ^ s) s, bit_at-pow_same s, at_true calls s h))
+            (λ e. rw (bit_at_or calls (2 ^ s) i, bit_at-pow_other s i (eqb-false i s e)) (omega arith))
+
+pub clear_bit : (calls s : ℕ) → calls < 2 ^ 64 → s < 64 → bit_and calls (2 ^ 64 - 1 - 1 * 2 ^ s % 2 ^ 64) ≡ cond (called calls s) (calls - 2 ^ s) calls
+clear_bit calls s c l = rw (bit_of s l) (go (called calls s) refl)
+  where
+    whole : bit_and calls (2 ^ 64 - 1 - 2 ^ s) + bit_at calls s * 2 ^ s ≡ calls
+    whole =
+        rw (and_comm calls (2 ^ 64 - 1 - 2 ^ s), ← and_pow calls s, and_comm calls (2 ^ s)) (and-not 64 (2 ^ s) calls (pow-lt {i = s} {j = 64} l) c)
+
+    go : (t : Bool) → called calls s ≡ t → bit_and calls (2 ^ 64 - 1 - 2 ^ s) ≡ cond t (calls - 2 ^ s) calls
+    go true h = let w = (rw (at_true calls s h, one-mul) at whole) in omega arith
+    go false h = let w = (rw (at_false calls s h, zero-mul) at whole) in omega arith

@@ -10,11 +10,7 @@ use lib.Pow.{pow_pos, shr-shr}
 use borrow.Author.Tests.{eqb-true, eqb-false, eq-eqb, ne_eqb, leb-false, lt-leb, ltb-true, ltb-false, not-true}
 use Rattle.call_sets.specs.Calls.{called, pressed, cleared}
 use Rattle.call_sets.specs.Sets.{Pressing, PressingTwice, Clearing, Sets}
-use Rattle.call_sets.proofs.Bits.{bit_held, pow_above}
-
-either : {A : Type 0} (b : Bool) → (b ≡ true → A) → (b ≡ false → A) → A
-either true f g = f refl
-either false f g = g refl
+use Rattle.call_sets.proofs.Bits.{either, bit_held, pow_above}
 
 -- ---- 2 ^ p added
 

@@ -6,42 +6,39 @@ ghost use Rattle.call_sets.specs.Calls as Calls;
 ghost use Rattle.call_sets.specs.Sets.{Sets};
 
 // Whether there is a call at the stop.
+#[tactic(auto, using(crate::proofs::Bits::read_bit, crate::proofs::Bits::no_bit))]
 pub fn called(calls: u64, stop: u8) -> bool
     ensures { result ≡ Calls.called calls stop }
 {
-    if 64 <= stop {
-        return false;
-    }
-    (calls >> stop) % 2 == 1
+    stop < 64 && (calls >> stop) & 1 == 1
 }
 
 // The calls with one at the stop.
+#[tactic(auto, using(crate::proofs::Bits::set_bit), unfolding(crate::specs::Calls::pressed))]
 pub fn pressed(calls: u64, stop: u8) -> u64
     ensures { result ≡ Calls.pressed calls stop }
 {
-    if 64 <= stop {
-        return calls;
+    if stop < 64 {
+        calls | (1 << stop)
+    } else {
+        calls
     }
-    if called(calls, stop) {
-        return calls;
-    }
-    calls + (1u64 << stop)
 }
 
 // The calls without one at the stop.
+#[tactic(auto, using(crate::proofs::Bits::clear_bit, crate::proofs::Bits::no_bit), unfolding(crate::specs::Calls::cleared))]
 pub fn cleared(calls: u64, stop: u8) -> u64
     ensures { result ≡ Calls.cleared calls stop }
 {
-    if 64 <= stop {
-        return calls;
+    if stop < 64 {
+        calls & !(1 << stop)
+    } else {
+        calls
     }
-    if called(calls, stop) {
-        return calls - (1u64 << stop);
-    }
-    calls
 }
 
 // Pressing and clearing are those of sets: claims about the definitions, which this function only carries.
+#[tactic(auto, using(crate::proofs::Members::all_sets))]
 pub fn sets() -> bool
     ensures { (result ≡ true) × Sets }
 {

@@ -17,7 +17,8 @@ use Rattle.motion.specs.Movement.{headway_clamp_target}
 use Rattle.motion.proofs.Inside.{wrap_inside}
 use Rattle.circle_facts.specs.Facts.{IsCircle, WrapTwice, ClampAhead}
 use Rattle.circle_facts.proofs.Headway.{max_zero}
-use Rattle.circle_facts.proofs.Grains.{held, rounded, Worth, Count, count_of, worth_finite, lt_is, eq_is, le_of, le_not, not_le, zero_le_is, not_below, at_most, rounded_mono, sub_count, add_count, add_is, rem_is, steps, exact, near}
+use Rattle.float.proofs.Units.{held}
+use Rattle.circle_facts.proofs.Grains.{rounded, Worth, Count, count_of, worth_finite, lt_is, eq_is, le_of, le_not, not_le, zero_le_is, not_below, at_most, rounded_mono, sub_count, add_count, add_is, rem_is, steps, exact, near}
 use Rattle.circle_facts.proofs.Shorter.{circle_count, circle_plus, forward_count}
 use Rattle.circle_facts.proofs.Ways.{above, wrap_count, straight, turned}
 use Rattle.circle_facts.proofs.Wrapped.{wrap_twice}

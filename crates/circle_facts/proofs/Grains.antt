@@ -3,10 +3,10 @@ use mathlib.Core.Path.{◌≡◌, refl, sym, ap, subst, ◌∙◌}
 use mathlib.Core.Bool.{Bool, true, false, not, ◌&&◌, ◌||◌, cond}
 use Prim.Native.Nat.{ℕ, zero, suc, ◌+◌, ◌-◌, ◌*◌, ◌/◌, ◌<◌, ◌≤◌, ◌^◌, ◌∣◌, zero-le}
 use native.Mathlib.Nat.{le_refl, le_of_eq, le_trans, le_antisymm, lt_of_le_of_lt, lt_of_lt_of_le, zero-add, sub-le}
-use native.Mathlib.Nat.{zero-mul, mul-pos, mul_assoc, mul_right_comm, mul-le-mul_right, le_of_mul-le-mul_right, eq_of_mul-eq-mul_right}
-use native.Mathlib.Nat.{add-mul, mul_comm, mul-sub, mul-div_cancel, mul-div_cancel', dvd-mul_left, dvd-mul_left_of_dvd, dvd-sub, mod-eq-sub-mod, mod-eq_of_lt}
+use native.Mathlib.Nat.{zero-mul, mul-pos, mul-le-mul_right, eq_of_mul-eq-mul_right}
+use native.Mathlib.Nat.{mul_comm, mul-div_cancel, mul-div_cancel', dvd-mul_left, dvd-mul_left_of_dvd, dvd-sub, mod-eq-sub-mod, mod-eq_of_lt}
 use native.Mathlib.Omega.{arith}
-use lib.Dec.{T, ltb, eqb, eqb-suc-zero}
+use lib.Dec.{T, ltb, eqb}
 use lib.IntN.{ℤ}
 use lib.Pow.{pow_pos, pow-add, pow_mono, shr_lt}
 use lib.Ieee.{Float, nan, inf, fin, binary64, up, down, below, level, size, round, sum, add, sub, rem, neg, lt, le, eq, of_bits}
@@ -21,14 +21,13 @@ use Rattle.float.specs.Facts.{IsF64}
 use Rattle.float.proofs.Cases.{placed_minus}
 use Rattle.float.proofs.Rounding.{Plus, plus_round, neg_round, round_own}
 use Rattle.float.proofs.Sides.{truly}
+use Rattle.float.proofs.Units as Units
+use Rattle.float.proofs.Units.{held, Part, left, right, keeps, gives, difference, total, same_lt}
 use Rattle.laws.proofs.Bools.{no, yes, holds}
 use Rattle.circle_facts.proofs.Circle.{le_zero_plus}
 use Rattle.circle_facts.proofs.Headway.{finite_below}
 
--- the f64 nearest to n grains, and how many grains it has
-pub held : ℕ → Float
-held n = round binary64 false n (2 ^ 1074)
-
+-- how many grains the f64 nearest to n grains has
 pub rounded : ℕ → ℕ
 rounded n = grid binary64 n (2 ^ 1074)
 
@@ -97,46 +96,17 @@ count_held n f =
 
 -- ---- two floats over one denominator
 
--- a of 1 / k is g grains
-abbrev Part : ℕ → ℕ → ℕ → Type 0
-Part a k g = a * 2 ^ 1074 ≡ g * k
-
 sized : (s : Bool) (m : ℕ) (e : ℤ) (g : ℕ) → Worth (fin s m e) g → Part (m * up e) (down e) g
 sized false m e g w = w
 sized true m e g w = rw (w.0, w.1, zero-mul (up e), zero-mul (down e))
 
-left : (s : Bool) (m : ℕ) (e : ℤ) (g : ℕ) (d : ℤ) → Worth (fin s m e) g → Part (m * up e * down d) (down e * down d) g
-left s m e g d w = mul_right_comm (m * up e) (down d) (2 ^ 1074) ∙ ap (λ (x : ℕ). x * down d) (sized s m e g w) ∙ mul_assoc g (down e) (down d)
+over : (s : Bool) (m : ℕ) (e : ℤ) (g : ℕ) (d : ℤ) → Worth (fin s m e) g → Part (m * up e * down d) (down e * down d) g
+over s m e g d w = left m e g d (sized s m e g w)
 
-right : (s : Bool) (m : ℕ) (e : ℤ) (g : ℕ) (d : ℤ) → Worth (fin s m e) g → Part (m * up e * down d) (down d * down e) g
-right s m e g d w = left s m e g d w ∙ ap (λ (x : ℕ). g * x) (mul_comm (down e) (down d))
-
-module _ (a b k g h : ℕ) (K : 0 < k) (p : Part a k g) (q : Part b k h) where
-  keeps : a ≤ b → g ≤ h
-  keeps l = le_of_mul-le-mul_right (le_trans (le_of_eq (sym p)) (le_trans (mul-le-mul_right (2 ^ 1074) l) (le_of_eq q))) K
-
-  gives : g ≤ h → a ≤ b
-  gives l = le_of_mul-le-mul_right (le_trans (le_of_eq p) (le_trans (mul-le-mul_right k l) (le_of_eq (sym q)))) (pow_pos 1074)
-
-  difference : Part (a - b) k (g - h)
-  difference = mul_comm (a - b) (2 ^ 1074) ∙ mul-sub (2 ^ 1074) a b ∙ ap (λ (x : ℕ). x - 2 ^ 1074 * b) (mul_comm (2 ^ 1074) a ∙ p ∙ mul_comm g k)
-      ∙ ap (λ (x : ℕ). k * g - x) (mul_comm (2 ^ 1074) b ∙ q ∙ mul_comm h k) ∙ sym (mul-sub k g h) ∙ mul_comm k (g - h)
-
-  total : Part (a + b) k (g + h)
-  total = rw (add-mul a b (2 ^ 1074), add-mul g h k, p, q)
+over_right : (s : Bool) (m : ℕ) (e : ℤ) (g : ℕ) (d : ℤ) → Worth (fin s m e) g → Part (m * up e * down d) (down d * down e) g
+over_right s m e g d w = right m e g d (sized s m e g w)
 
 -- so the comparisons are those of the grains
-same_lt : (a b k g h : ℕ) → 0 < k → Part a k g → Part b k h → ltb a b ≡ ltb g h
-same_lt a b k g h K p q = go (ltb g h) refl
-  where
-    go : (t : Bool) → ltb g h ≡ t → ltb a b ≡ t
-    go true e = by (ltb a b) refl
-      where
-        by : (t : Bool) → ltb a b ≡ t → t ≡ true
-        by true f = refl
-        by false f = absurd (omega (arith, ltb-true g h e, keeps b a k h g K q p (ltb-false a b f)))
-    go false e = le-ltb a b (gives b a k h g K q p (ltb-false g h e))
-
 same_eq : (a b k g h : ℕ) → 0 < k → Part a k g → Part b k h → eqb a b ≡ eqb g h
 same_eq a b k g h K p q = go (eqb g h) refl
   where
@@ -168,7 +138,7 @@ finitely g h P Q at all (fin s m e) nan p q = absurd q
 finitely g h P Q at all (fin s m e) (inf u) p q = absurd q
 finitely g h P Q at all (fin s m e) (fin u n d) p q =
     at s m e u n d
-    (all s (m * up e * down d) u (n * up d * down e) (down e * down d) (mul-pos (down_pos e) (down_pos d)) (left s m e g d p) (right u n d h e q) (signed s m e g p) (signed u n d h q))
+    (all s (m * up e * down d) u (n * up d * down e) (down e * down d) (mul-pos (down_pos e) (down_pos d)) (over s m e g d p) (over_right u n d h e q) (signed s m e g p) (signed u n d h q))
 
 none : (a k g : ℕ) → Part a k g → g ≡ 0 → a ≡ 0
 none a k g p z = eq_of_mul-eq-mul_right (2 ^ 1074) (pow_pos 1074) a 0 (p ∙ rw (z, zero-mul k, zero-mul (2 ^ 1074)))
@@ -371,51 +341,31 @@ add_count x y g h p q f =
 
 -- ---- and of floats with no sign
 
-plainly : (g h : ℕ) (P : Float → Float → Type 0)
-    → ((m : ℕ) (e : ℤ) (n : ℕ) (d : ℤ) → 0 < down e * down d → Part (m * up e * down d) (down e * down d) g → Part (n * up d * down e) (down e * down d) h → P (fin false m e) (fin false n d))
-    → (x y : Float) → Plus x → Plus y → Worth x g → Worth y h → P x y
-plainly g h P at nan y r t p q = absurd p
-plainly g h P at (inf s) y r t p q = absurd p
-plainly g h P at (fin s m e) nan r t p q = absurd q
-plainly g h P at (fin s m e) (inf u) r t p q = absurd q
-plainly g h P at (fin true m e) (fin u n d) r t p q = yes r
-plainly g h P at (fin false m e) (fin true n d) r t p q = yes t
-plainly g h P at (fin false m e) (fin false n d) r t p q = at m e n d (mul-pos (down_pos e) (down_pos d)) (left false m e g d p) (right false n d h e q)
+-- such a float has its grains as units of float/proofs/Units
+units_of : (x : Float) (g : ℕ) → Plus x → Worth x g → Units.Worth x g
+units_of nan g r p = absurd p
+units_of (inf s) g r p = absurd p
+units_of (fin true m e) g r p = yes r
+units_of (fin false m e) g r p = (refl, p)
 
 pub add_is : (x y : Float) (g h : ℕ) → Plus x → Plus y → Worth x g → Worth y h → add binary64 x y ≡ held (g + h)
-unfolding add held
-add_is x y g h =
-    plainly g h (λ x y. add binary64 x y ≡ held (g + h)) (λ m e n d K i j. sum_like (m * up e * down d) (n * up d * down e) (down e * down d) g h K i j false) x y
+add_is x y g h r t p q = Units.add_is x y g h (units_of x g r p) (units_of y h t q)
 
 pub sub_is : (x y : Float) (g h : ℕ) → h ≤ g → Plus x → Plus y → Worth x g → Worth y h → sub binary64 x y ≡ held (g - h)
-unfolding sub add neg
-sub_is x y g h l =
-    plainly g h (λ x y. sub binary64 x y ≡ held (g - h)) (λ m e n d K i j. sum_back (m * up e * down d) (n * up d * down e) (down e * down d) g h K i j l) x y
+sub_is x y g h l r t p q = Units.sub_is x y g h l (units_of x g r p) (units_of y h t q)
 
 -- -x + y
 pub turn_is : (x y : Float) (g h : ℕ) → g ≤ h → Plus x → Plus y → Worth x g → Worth y h → add binary64 (neg x) y ≡ held (h - g)
 unfolding add neg
-turn_is x y g h l =
-    plainly g h (λ x y. add binary64 (neg x) y ≡ held (h - g)) (λ m e n d K i j. sum_turned (m * up e * down d) (n * up d * down e) (down e * down d) g h K i j l) x y
+turn_is x y g h l r t p q =
+    Units.plainly g h (λ x y. add binary64 (neg x) y ≡ held (h - g)) (λ m e n d K i j. sum_turned (m * up e * down d) (n * up d * down e) (down e * down d) g h K i j l)
+    x y (units_of x g r p) (units_of y h t q)
 
 -- x less one turn y
 pub rem_is : (x y : Float) (g h : ℕ) → h ≤ g → g < h + h → Plus x → Plus y → Worth x g → Worth y h → rem binary64 x y ≡ held (g - h)
-unfolding rem held
-rem_is x y g h l under = plainly g h (λ x y. rem binary64 x y ≡ held (g - h)) at x y
-  where
-    at : (m : ℕ) (e : ℤ) (n : ℕ) (d : ℤ) → 0 < down e * down d → Part (m * up e * down d) (down e * down d) g → Part (n * up d * down e) (down e * down d) h
-        → rem binary64 (fin false m e) (fin false n d) ≡ held (g - h)
-    at m e zero d K i j =
-        let z : h ≡ 0 = eq_of_mul-eq-mul_right (down e * down d) K h 0 (sym j ∙ rw (zero-mul (up d), zero-mul (down e), zero-mul (2 ^ 1074), zero-mul (down e * down d))) in
-        absurd (omega (arith, under))
-    at m e (suc n) d K i j =
-        let a = m * up e * down d in
-        let b = suc n * up d * down e in
-        let k = down e * down d in
-        let once : b ≤ a = gives b a k h g K j i l in
-        let twice : a < b + b = ltb-true a (b + b) (same_lt a (b + b) k g (h + h) K i (total b b k h h K j j) ∙ lt-ltb g (h + h) under) in
-        let less : a - b < b = omega arith in
-        rw (eqb-suc-zero n, mod-eq-sub-mod once, mod-eq_of_lt less) (as_held a b k g h K i j false (a - b) (g - h) (difference a b k g h K i j))
+rem_is x y g h l under r t p q =
+    let less : g - h < h = omega arith in
+    Units.rem_is x y g h (omega arith) (units_of x g r p) (units_of y h t q) ∙ ap held (mod-eq-sub-mod l ∙ mod-eq_of_lt less)
 
 -- ---- where nothing is lost
 

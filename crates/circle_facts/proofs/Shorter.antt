@@ -17,7 +17,8 @@ use Rattle.motion.specs.Cyclic.{degenerate, wrap_position, forward_distance, cyc
 use Rattle.circle_facts.specs.Facts.{IsCircle, ForwardInCircle, TwiceCyclic}
 use Rattle.circle_facts.proofs.Circle.{le_zero_plus, on_circle, forward_in_circle}
 use Rattle.circle_facts.proofs.Wrapped.{circle_finite}
-use Rattle.circle_facts.proofs.Grains.{held, rounded, Worth, Count, count_of, worth_finite, lt_is, le_of, of_le, at_most, sub_count, add_count, near}
+use Rattle.float.proofs.Units.{held}
+use Rattle.circle_facts.proofs.Grains.{rounded, Worth, Count, count_of, worth_finite, lt_is, le_of, of_le, at_most, sub_count, add_count, near}
 
 pub circle_plus : (c : Float) → IsCircle c → Plus c
 circle_plus = on_circle Plus (λ n d k. refl)

@@ -20,7 +20,8 @@ use Rattle.motion.specs.declared.movement.MovementResult.{MovementResult}
 use Rattle.velocity.specs.Velocity.{fma, new_velocity}
 use Rattle.circle_facts.specs.Facts.{WrapInCircle, WrapTwice, TickInCircle}
 use Rattle.circle_facts.proofs.Circle.{le_zero_plus, wrap_in_circle}
-use Rattle.circle_facts.proofs.Grains.{held, rounded, Count, count_of, zero_worth, worth_finite, at_most, plus_held, held_finite, sub_count, sub_below, sub_is, add_count, add_is}
+use Rattle.float.proofs.Units.{held}
+use Rattle.circle_facts.proofs.Grains.{rounded, Count, count_of, zero_worth, worth_finite, at_most, plus_held, held_finite, sub_count, sub_below, sub_is, add_count, add_is}
 use Rattle.circle_facts.proofs.Shorter.{circle_count, circle_plus, forward_count}
 use Rattle.circle_facts.proofs.Ways.{wrap_count, forward_plus}
 use Rattle.circle_facts.proofs.Wrapped.{wrap_twice}

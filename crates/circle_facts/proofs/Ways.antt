@@ -16,7 +16,8 @@ use Rattle.laws.proofs.Bools.{yes}
 use Rattle.motion.specs.Cyclic.{degenerate, wrap_position, forward_distance, cyclic_distance}
 use Rattle.circle_facts.specs.Facts.{IsCircle, WrapInCircle, CyclicBothWays}
 use Rattle.circle_facts.proofs.Circle.{wrap_in_circle, ahead}
-use Rattle.circle_facts.proofs.Grains.{held, rounded, Worth, worth_same, Count, count_of, plus_held, some, lt_is, eq_is, not_below, at_most, sub_count, sub_below, sub_is, turn_is}
+use Rattle.float.proofs.Units.{held}
+use Rattle.circle_facts.proofs.Grains.{rounded, Worth, worth_same, Count, count_of, plus_held, some, lt_is, eq_is, not_below, at_most, sub_count, sub_below, sub_is, turn_is}
 use Rattle.circle_facts.proofs.Shorter.{circle_count, circle_plus, finite_between, forward_count, least, cyclic_count}
 use Rattle.circle_facts.proofs.Wrapped.{circle_finite, wrap_fits}
 

@@ -1,15 +1,15 @@
 -- Comparisons with 0 and small laws at each case of a Float. Assumes nothing.
 use mathlib.Core.Path.{◌≡◌, refl}
-use mathlib.Core.Bool.{Bool, true, false, not, cond}
+use mathlib.Core.Bool.{◌&&◌, Bool, true, false, not, cond}
 use Prim.Native.Nat.{ℕ, zero, suc, ◌+◌, ◌*◌, ◌<◌, ◌^◌}
 use native.Mathlib.Nat.{zero-mul, mul-one, one-mul, mul-pos, pow-suc}
 use native.Mathlib.Omega.{arith}
 use lib.Pow.{pow_pos}
 use lib.IntN.{ℤ, pos, negsuc}
-use lib.Ieee.{Float, nan, inf, fin, binary64, up, down, lt, le, eq, ne, neg, is_nan, fits, of_bits}
+use lib.Ieee.{Float, nan, inf, fin, binary64, up, down, lt, le, eq, ne, neg, is_nan, fits, of_bits, div}
 use lib.Ieee.Fits.{up_pos}
 use borrow.Author.Tests.{ltb-true, ltb-false, lt-ltb, eqb-true, eq-eqb}
-use Rattle.std.specs.Float.{NotNan, float_is_finite, is_sign_negative}
+use Rattle.std.specs.Float.{NotNan, is_sign_negative}
 use Rattle.laws.proofs.Bools.{no, and_left}
 use Rattle.float.specs.Float as F64
 
@@ -49,6 +49,13 @@ zero_exponent s (pos zero) h = refl
 zero_exponent s (pos (suc k)) h = absurd (omega (arith, eqb-true (2 ^ suc k * 1) 1 h, mul-one (2 ^ suc k), pow-suc 2 k, pow_pos k))
 zero_exponent s (negsuc k) h = absurd (omega (arith, eqb-true (1 * 2 ^ suc k) 1 h, one-mul (2 ^ suc k), pow-suc 2 k, pow_pos k))
 
+pub finite_between : (x : Float) → (lt (neg (div binary64 F64.one F64.zero)) x && lt x (div binary64 F64.one F64.zero)) ≡ F64.is_finite x
+unfolding lt div neg of_bits F64.is_finite
+finite_between nan = refl
+finite_between (inf true) = refl
+finite_between (inf false) = refl
+finite_between (fin s m e) = refl
+
 pub eq_self : (x : Float) → eq x x ≡ not (is_nan x)
 unfolding eq is_nan
 eq_self nan = refl
@@ -78,12 +85,6 @@ unfolding is_sign_negative F64.is_sign_negative
 sign_is nan = refl
 sign_is (inf s) = refl
 sign_is (fin s m e) = refl
-
-pub finite_is : (x : Float) → float_is_finite x ≡ F64.is_finite x
-unfolding float_is_finite F64.is_finite
-finite_is nan = refl
-finite_is (inf s) = refl
-finite_is (fin s m e) = refl
 
 -- what equals a float is a number
 pub equal_number : (x y : Float) → eq x y ≡ true → NotNan y

@@ -21,7 +21,7 @@ use Rattle.float.proofs.Rounding.{Plus, plus_round, ordered, fitting}
 use Rattle.laws.proofs.Bools.{no, yes, holds}
 
 -- the f64 nearest to n units
-pub held : ℕ → Float
+unfoldable pub held : ℕ → Float
 held n = round binary64 false n (2 ^ 1074)
 
 -- at most 53 digits, and zeros after them
@@ -89,13 +89,13 @@ held_top n l = go (held n) (plus_round n (2 ^ 1074)) (subst (λ (x : Float). T (
 -- ---- two floats over one denominator
 
 -- a of 1 / k is g units
-abbrev Part : ℕ → ℕ → ℕ → Type 0
+abbrev pub Part : ℕ → ℕ → ℕ → Type 0
 Part a k g = a * 2 ^ 1074 ≡ g * k
 
-left : (m : ℕ) (e : ℤ) (g : ℕ) (d : ℤ) → Part (m * up e) (down e) g → Part (m * up e * down d) (down e * down d) g
+pub left : (m : ℕ) (e : ℤ) (g : ℕ) (d : ℤ) → Part (m * up e) (down e) g → Part (m * up e * down d) (down e * down d) g
 left m e g d w = mul_right_comm (m * up e) (down d) (2 ^ 1074) ∙ ap (λ (x : ℕ). x * down d) w ∙ mul_assoc g (down e) (down d)
 
-right : (m : ℕ) (e : ℤ) (g : ℕ) (d : ℤ) → Part (m * up e) (down e) g → Part (m * up e * down d) (down d * down e) g
+pub right : (m : ℕ) (e : ℤ) (g : ℕ) (d : ℤ) → Part (m * up e) (down e) g → Part (m * up e * down d) (down d * down e) g
 right m e g d w = left m e g d w ∙ ap (λ (x : ℕ). g * x) (mul_comm (down e) (down d))
 
 -- a remainder keeps a common factor
@@ -107,17 +107,17 @@ scaled a b c B C =
     ∙ mod-eq_of_lt (mul-lt-mul_of_pos_right (mod-lt a B) C)
 
 module _ (a b k g h : ℕ) (K : 0 < k) (p : Part a k g) (q : Part b k h) where
-  keeps : a ≤ b → g ≤ h
+  pub keeps : a ≤ b → g ≤ h
   keeps l = le_of_mul-le-mul_right (le_trans (le_of_eq (sym p)) (le_trans (mul-le-mul_right (2 ^ 1074) l) (le_of_eq q))) K
 
-  gives : g ≤ h → a ≤ b
+  pub gives : g ≤ h → a ≤ b
   gives l = le_of_mul-le-mul_right (le_trans (le_of_eq p) (le_trans (mul-le-mul_right k l) (le_of_eq (sym q)))) (pow_pos 1074)
 
-  difference : Part (a - b) k (g - h)
+  pub difference : Part (a - b) k (g - h)
   difference = mul_comm (a - b) (2 ^ 1074) ∙ mul-sub (2 ^ 1074) a b ∙ ap (λ (x : ℕ). x - 2 ^ 1074 * b) (mul_comm (2 ^ 1074) a ∙ p ∙ mul_comm g k)
       ∙ ap (λ (x : ℕ). k * g - x) (mul_comm (2 ^ 1074) b ∙ q ∙ mul_comm h k) ∙ sym (mul-sub k g h) ∙ mul_comm k (g - h)
 
-  total : Part (a + b) k (g + h)
+  pub total : Part (a + b) k (g + h)
   total = rw (add-mul a b (2 ^ 1074), add-mul g h k, p, q)
 
   rest : 0 < b → 0 < h → Part (a % b) k (g % h)
@@ -127,7 +127,7 @@ module _ (a b k g h : ℕ) (K : 0 < k) (p : Part a k g) (q : Part b k h) where
   unfolding held
   as_held v n i = round_same binary64 false v k n (2 ^ 1074) K (pow_pos 1074) i
 
-same_lt : (a b k g h : ℕ) → 0 < k → Part a k g → Part b k h → ltb a b ≡ ltb g h
+pub same_lt : (a b k g h : ℕ) → 0 < k → Part a k g → Part b k h → ltb a b ≡ ltb g h
 same_lt a b k g h K p q = go (ltb g h) refl
   where
     go : (t : Bool) → ltb g h ≡ t → ltb a b ≡ t
@@ -138,7 +138,7 @@ same_lt a b k g h K p q = go (ltb g h) refl
         by false f = absurd (omega (arith, ltb-true g h e, keeps b a k h g K q p (ltb-false a b f)))
     go false e = le-ltb a b (gives b a k h g K q p (ltb-false g h e))
 
-plainly : (g h : ℕ) (P : Float → Float → Type 0)
+pub plainly : (g h : ℕ) (P : Float → Float → Type 0)
     → ((m : ℕ) (e : ℤ) (n : ℕ) (d : ℤ) → 0 < down e * down d → Part (m * up e * down d) (down e * down d) g → Part (n * up d * down e) (down e * down d) h → P (fin false m e) (fin false n d))
     → (x y : Float) → Worth x g → Worth y h → P x y
 plainly g h P at nan y p q = absurd p

@@ -1,5 +1,0 @@
--- `beside::doors::door_is_closed` meets its contract. Assumes nothing.
-use Rattle.beside.proofs.doors.door_is_closed.Goals as goal
-
-pub returns : goal.returns
-returns c = rw c.door_of.ensures at c.is_closed.ensures
