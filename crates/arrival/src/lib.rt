@@ -13,28 +13,26 @@ use world::{Car, Lamps, LineKind, Queue, Rider};
 fn needing(lamps: Lamps, position: f64, stop: f64) -> Lamps
     ensures { result ≡ Arrival.needing lamps position stop }
 {
+    // Stays: with a literal of `..lamps` each rider costs both tests, and a tenth more instructions in all.
+    let mut needed = lamps;
     if position > stop {
-        Lamps {
-            going_up: true,
-            ..lamps
-        }
+        needed.going_up = true;
     } else if position < stop {
-        Lamps {
-            going_down: true,
-            ..lamps
-        }
-    } else {
-        lamps
+        needed.going_down = true;
     }
+    needed
 }
 
 // With one more rider, where it is aboard the car and has a destination.
-fn needing_rider(rider: Rider, lamps: Lamps, stops: &[f64; 64], number: u8, stop: f64) -> Lamps
-    ensures { result ≡ Arrival.needing_rider rider lamps stops.now number stop }
+fn needing_rider(rider: &Rider, lamps: Lamps, stops: &[f64; 64], number: u8, stop: f64) -> Lamps
+    ensures { result ≡ Arrival.needing_rider rider.now lamps stops.now number stop }
 {
+    if rider.aboard != Some(number) {
+        return lamps;
+    }
     match rider.destination {
-        Some(s) if rider.aboard == Some(number) => needing(lamps, stop_position(stops, s), stop),
-        _ => lamps,
+        Some(s) => needing(lamps, stop_position(stops, s), stop),
+        None => lamps,
     }
 }
 
@@ -51,7 +49,7 @@ fn riders_need(
 {
     let count = rider_count.min(128);
     let mut lamps = Lamps::NONE;
-    for &rider in &riders[..count] {
+    for rider in &riders[..count] {
         lamps = needing_rider(rider, lamps, stops, number, stop);
     }
     lamps
@@ -96,12 +94,11 @@ pub fn direction_from_remaining_work(
     both_if_none(queue_needs(queue, stops, aboard, stop))
 }
 
-fn shifted(mut q: [u8; 8]) -> [u8; 8]
+// Stays: the eight written out become one shift of a word; copy_within goes through memory.
+fn shifted(q: [u8; 8]) -> [u8; 8]
     ensures { result ≡ Arrival.shifted q }
 {
-    q.copy_within(1.., 0);
-    q[7] = 0;
-    q
+    [q[1], q[2], q[3], q[4], q[5], q[6], q[7], 0]
 }
 
 // The queue without its front, where that is the stop.
