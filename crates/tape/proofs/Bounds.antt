@@ -13,7 +13,6 @@ use Rattle.world.specs.declared.refusal.Refusal.TheVariants.{CutShort, UnknownKi
 use Rattle.laws.proofs.Bools.{and_left, and_right}
 use Rattle.laws.proofs.Choices.{cases}
 use Rattle.world.proofs.Checks.{Passed, all, first_of, unless_has}
-use Rattle.fields.specs.declared.head.Head.{Head}
 use Rattle.std.specs.Prelude.{Result, Ok, Err}
 use Rattle.tape_records.specs.declared.Decoded.{Decoded}
 use Rattle.tape_records.specs.Answers.{Deed, answer}

@@ -1,9 +1,8 @@
 -- What a tape (the input record stream) begins with: the record of its kind, or the first refusal whose condition holds.
-use Rattle.std.specs.Prelude.{Result, Err, Bool, cond, List, [], ◌∷◌, ℕ, eqb, length, get_or}
+use Rattle.std.specs.Prelude.{Result, Err, cond, List, [], ◌∷◌, ℕ, eqb, length, get_or}
 use Rattle.world.specs.Refusal.{check, unless}
 use Rattle.world.specs.declared.refusal.Refusal.{Refusal}
 use Rattle.world.specs.declared.refusal.Refusal.TheVariants.{CutShort, UnknownKind}
-use Rattle.layout.specs.Layout.{kind_of}
 use Rattle.fields.specs.declared.head.Head.{Head}
 use Rattle.fields.specs.Fields.{head_of}
 use Rattle.tape_records.specs.declared.Decoded.{Decoded}

@@ -9,11 +9,12 @@ use fields::body::{
     float_at, outside_above_zero, outside_from_zero, outside_size, raw_zero_at, word_at,
 };
 use fields::head::Head;
-use tape_records::{Decoded, Read, Record, checked};
+use tape_records::{Decoded, Read, Record, accepted, refuse_if};
 use world::refusal::Refusal;
 use world::{CarPlan, LineKind, Motion, Rider, RiderPhase};
 
 // How many served stops follow: 65,535 stands for no list.
+#[tactic(auto, unfolding(crate::specs::LoadRecords::serves_count))]
 fn serves_count(v: u32) -> usize
     ensures { result ≡ serves_count v }
 {
@@ -21,33 +22,32 @@ fn serves_count(v: u32) -> usize
 }
 
 // Whether one of the first `count` served words is no stop's number.
+#[tactic(auto, unfolding(crate::specs::LoadRecords::serves_outside))]
 fn serves_outside(words: &[u32], count: usize) -> bool
     requires { count ≤ 64 }
     ensures { result ≡ serves_outside words.now count }
 {
     let mut outside = false;
-    let mut i = 0;
-    while i < count {
-        outside = outside | (word_at(words, 5 + i) > 63);
-        i += 1;
+    for i in 0..count {
+        outside |= word_at(words, 5 + i) > 63;
     }
     outside
 }
 
 // The first `count` served words in order, and zeros.
+#[tactic(auto, unfolding(crate::specs::LoadRecords::serves_to))]
 fn serves_to(words: &[u32], count: usize) -> [u8; 64]
     requires { (count ≤ 64) × (serves_outside words.now count ≡ false) }
     ensures { result ≡ serves_to words.now count }
 {
     let mut serves = [0u8; 64];
-    let mut i = 0;
-    while i < count {
+    for i in 0..count {
         serves[i] = word_at(words, 5 + i) as u8;
-        i += 1;
     }
     serves
 }
 
+#[tactic(auto, unfolding(crate::specs::LoadRecords::line_fields_outside))]
 fn line_fields_outside(head: Head, words: &[u32]) -> bool
     ensures { result ≡ line_fields_outside head words.now }
 {
@@ -55,6 +55,7 @@ fn line_fields_outside(head: Head, words: &[u32]) -> bool
     (head.n > 7) | (head.s > 1) | (head.s == 0) & !raw_zeros
 }
 
+#[tactic(auto, unfolding(crate::specs::LoadRecords::line_floats_outside))]
 fn line_floats_outside(head: Head, words: &[u32]) -> bool
     ensures { result ≡ line_floats_outside head words.now }
 {
@@ -63,36 +64,30 @@ fn line_floats_outside(head: Head, words: &[u32]) -> bool
     (head.s == 1) & outside
 }
 
+#[tactic(auto, unfolding(crate::specs::LoadRecords::line_kind_of))]
 fn line_kind_of(head: Head, words: &[u32]) -> LineKind
     ensures { result ≡ line_kind_of head words.now }
 {
-    let s = head.s;
-    if s == 0 {
-        return LineKind::Linear;
-    }
-    LineKind::Loop {
-        circumference: float_at(words, 1),
-        min_headway: float_at(words, 3),
+    if head.s == 0 {
+        LineKind::Linear
+    } else {
+        LineKind::Loop {
+            circumference: float_at(words, 1),
+            min_headway: float_at(words, 3),
+        }
     }
 }
 
+#[tactic(auto, unfolding(crate::specs::LoadRecords::line_record))]
 pub fn decode_line(head: Head, words: &[u32]) -> Result<Decoded, Refusal>
     ensures { result ≡ answer (line_record head words.now) }
 {
-    if (head.v > 64) & (head.v != 65535) {
-        return Err(Refusal::FieldOutside);
-    }
+    refuse_if((head.v > 64) & (head.v != 65535), Refusal::FieldOutside)?;
     let count = serves_count(head.v);
-    if words.len() < 5 + count {
-        return Err(Refusal::CutShort);
-    }
-    let stop_outside = serves_outside(words, count);
-    if line_fields_outside(head, words) | stop_outside {
-        return Err(Refusal::FieldOutside);
-    }
-    if line_floats_outside(head, words) {
-        return Err(Refusal::FloatOutside);
-    }
+    refuse_if(words.len() < 5 + count, Refusal::CutShort)?;
+    let field_outside = line_fields_outside(head, words) | serves_outside(words, count);
+    refuse_if(field_outside, Refusal::FieldOutside)?;
+    refuse_if(line_floats_outside(head, words), Refusal::FloatOutside)?;
     let kind = line_kind_of(head, words);
     let record = Record::Line {
         number: head.n,
@@ -108,14 +103,16 @@ pub fn decode_line(head: Head, words: &[u32]) -> Result<Decoded, Refusal>
 pub fn decode_stop(head: Head, words: &[u32]) -> Result<Decoded, Refusal>
     ensures { result ≡ answer (stop_record head words.now) }
 {
+    refuse_if(words.len() < 3, Refusal::CutShort)?;
     let field_outside = (head.n != 0) | (head.s > 63) | (head.v != 0);
+    refuse_if(field_outside, Refusal::FieldOutside)?;
     let position = float_at(words, 1);
-    let float_outside = outside_size(position, 1000000.0);
+    refuse_if(outside_size(position, 1000000.0), Refusal::FloatOutside)?;
     let record = Record::Stop {
         number: head.s,
         position,
     };
-    checked(words.len() < 3, field_outside, float_outside, record, 3)
+    Ok(accepted(record, 3))
 }
 
 fn motion_at(words: &[u32]) -> Motion
@@ -145,9 +142,10 @@ fn motion_outside(motion: Motion) -> bool
 pub fn decode_car(head: Head, words: &[u32]) -> Result<Decoded, Refusal>
     ensures { result ≡ answer (car_record head words.now) }
 {
-    let field_outside = (head.s > 7) | (head.v != 0);
+    refuse_if(words.len() < 15, Refusal::CutShort)?;
+    refuse_if((head.s > 7) | (head.v != 0), Refusal::FieldOutside)?;
     let motion = motion_at(words);
-    let float_outside = motion_outside(motion);
+    refuse_if(motion_outside(motion), Refusal::FloatOutside)?;
     let plan = CarPlan {
         line: head.s,
         motion,
@@ -158,7 +156,7 @@ pub fn decode_car(head: Head, words: &[u32]) -> Result<Decoded, Refusal>
         number: head.n,
         plan,
     };
-    checked(words.len() < 15, field_outside, float_outside, record, 15)
+    Ok(accepted(record, 15))
 }
 
 // The body word of a rider: bits 7-0 phase, 15-8 phase's car, 23-16 car aboard, top bits.
@@ -201,6 +199,7 @@ fn rider_body_outside(body: RiderBody) -> bool
         | (body.top != 0)
 }
 
+// Stays: a TryFrom would look again at the phases that the record's check has passed.
 fn rider_phase(phase: u8, car: u8) -> RiderPhase
     ensures { result ≡ rider_phase phase car }
 {
@@ -231,20 +230,21 @@ fn stop_option(stop: u32) -> Option<u8>
 pub fn decode_rider(head: Head, words: &[u32]) -> Result<Decoded, Refusal>
     ensures { result ≡ answer (rider_record head words.now) }
 {
+    refuse_if(words.len() < 2, Refusal::CutShort)?;
     let body = rider_body(word_at(words, 1));
     let head_outside = (head.n != 0) | (head.s > 127) | (head.v > 63) & (head.v != 65535);
-    let field_outside = head_outside | rider_body_outside(body);
-    let destination = stop_option(head.v);
-    let phase = rider_phase(body.phase, body.car);
-    let aboard = car_option(body.aboard);
+    refuse_if(
+        head_outside | rider_body_outside(body),
+        Refusal::FieldOutside,
+    )?;
     let rider = Rider {
-        destination,
-        phase,
-        aboard,
+        destination: stop_option(head.v),
+        phase: rider_phase(body.phase, body.car),
+        aboard: car_option(body.aboard),
     };
     let record = Record::Rider {
         number: head.s,
         rider,
     };
-    checked(words.len() < 2, field_outside, false, record, 2)
+    Ok(accepted(record, 2))
 }

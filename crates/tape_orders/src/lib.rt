@@ -8,22 +8,23 @@ ghost use Rattle.tape_orders.specs.OrderRecords.{send_record, mode_of, mode_reco
 use door::DoorCommand;
 use fields::body::{float_at, outside_above_zero, outside_size, raw_zero_at};
 use fields::head::Head;
-use tape_records::{Decoded, Read, Record, checked, checked_read};
+use tape_records::{Decoded, Read, Record, accepted, alone, refuse_if};
 use world::ServiceMode;
 use world::refusal::Refusal;
 
 pub fn decode_send(head: Head) -> Result<Decoded, Refusal>
     ensures { result ≡ answer (send_record head) }
 {
-    let field_outside = (head.s > 63) | (head.v > 1);
+    refuse_if((head.s > 63) | (head.v > 1), Refusal::FieldOutside)?;
     let record = Record::Send {
         car: head.n,
         stop: head.s,
         reposition: head.v == 1,
     };
-    checked(false, field_outside, false, record, 1)
+    Ok(accepted(record, 1))
 }
 
+// Stays: a TryFrom would look again at the codes that the record's check has passed.
 fn mode_of(v: u32) -> ServiceMode
     ensures { result ≡ mode_of v }
 {
@@ -39,10 +40,10 @@ fn mode_of(v: u32) -> ServiceMode
 pub fn decode_mode(head: Head) -> Result<Decoded, Refusal>
     ensures { result ≡ answer (mode_record head) }
 {
-    let field_outside = (head.s != 0) | (head.v > 4);
+    refuse_if((head.s != 0) | (head.v > 4), Refusal::FieldOutside)?;
     let mode = mode_of(head.v);
     let record = Record::Mode { car: head.n, mode };
-    checked(false, field_outside, false, record, 1)
+    Ok(accepted(record, 1))
 }
 
 fn speed_of(v: u32, speed: f64) -> Option<f64>
@@ -54,13 +55,16 @@ fn speed_of(v: u32, speed: f64) -> Option<f64>
 pub fn decode_manual_speed(head: Head, words: &[u32]) -> Result<Decoded, Refusal>
     ensures { result ≡ answer (manual_speed_record head words.now) }
 {
+    refuse_if(words.len() < 3, Refusal::CutShort)?;
     let raw_zero = raw_zero_at(words, 1);
     let field_outside = (head.s != 0) | (head.v > 1) | (head.v == 0) & !raw_zero;
+    refuse_if(field_outside, Refusal::FieldOutside)?;
     let float = float_at(words, 1);
     let float_outside = (head.v == 1) & outside_size(float, 1000.0);
+    refuse_if(float_outside, Refusal::FloatOutside)?;
     let speed = speed_of(head.v, float);
     let record = Record::ManualSpeed { car: head.n, speed };
-    checked(words.len() < 3, field_outside, float_outside, record, 3)
+    Ok(accepted(record, 3))
 }
 
 fn command_of(s: u8, v: u32) -> DoorCommand
@@ -78,45 +82,47 @@ pub fn decode_door_command(head: Head) -> Result<Decoded, Refusal>
     ensures { result ≡ answer (door_command_record head) }
 {
     let field_outside = (head.s > 3) | (head.s != 2) & (head.v != 0);
+    refuse_if(field_outside, Refusal::FieldOutside)?;
     let command = command_of(head.s, head.v);
     let record = Record::DoorCommand {
         car: head.n,
         command,
     };
-    checked(false, field_outside, false, record, 1)
+    Ok(accepted(record, 1))
 }
 
 pub fn decode_hall_call(head: Head) -> Result<Decoded, Refusal>
     ensures { result ≡ answer (hall_call_record head) }
 {
     let field_outside = (head.n != 0) | (head.s > 63) | (head.v > 1);
+    refuse_if(field_outside, Refusal::FieldOutside)?;
     let record = Record::HallCall {
         stop: head.s,
         down: head.v == 1,
     };
-    checked(false, field_outside, false, record, 1)
+    Ok(accepted(record, 1))
 }
 
 pub fn decode_destination(head: Head) -> Result<Decoded, Refusal>
     ensures { result ≡ answer (destination_record head) }
 {
-    let field_outside = (head.s > 63) | (head.v != 0);
+    refuse_if((head.s > 63) | (head.v != 0), Refusal::FieldOutside)?;
     let record = Record::Destination {
         car: head.n,
         stop: head.s,
     };
-    checked(false, field_outside, false, record, 1)
+    Ok(accepted(record, 1))
 }
 
 pub fn decode_enable(head: Head) -> Result<Decoded, Refusal>
     ensures { result ≡ answer (enable_record head) }
 {
-    let field_outside = (head.s != 0) | (head.v > 1);
+    refuse_if((head.s != 0) | (head.v > 1), Refusal::FieldOutside)?;
     let record = Record::Enable {
         car: head.n,
         enabled: head.v == 0,
     };
-    checked(false, field_outside, false, record, 1)
+    Ok(accepted(record, 1))
 }
 
 // One of n, s and v is not 0.
@@ -129,17 +135,18 @@ fn any_field_set(head: Head) -> bool
 pub fn decode_tick(head: Head, words: &[u32]) -> Result<Decoded, Refusal>
     ensures { result ≡ answer (tick_record head words.now) }
 {
-    let field_outside = any_field_set(head);
+    refuse_if(words.len() < 3, Refusal::CutShort)?;
+    refuse_if(any_field_set(head), Refusal::FieldOutside)?;
     let dt = float_at(words, 1);
-    let float_outside = outside_above_zero(dt, 1.0);
+    refuse_if(outside_above_zero(dt, 1.0), Refusal::FloatOutside)?;
     let read = Read::Tick { dt, used: 3 };
-    checked_read(words.len() < 3, field_outside, float_outside, read)
+    Ok(alone(read))
 }
 
 pub fn decode_start(head: Head) -> Result<Decoded, Refusal>
     ensures { result ≡ answer (start_record head) }
 {
-    let field_outside = any_field_set(head);
+    refuse_if(any_field_set(head), Refusal::FieldOutside)?;
     let record = Record::Start;
-    checked(false, field_outside, false, record, 1)
+    Ok(accepted(record, 1))
 }

@@ -1,9 +1,8 @@
-// A tape's records with their values, what is read of a tape, and the checks of a record in their order.
+// A tape's records with their values, what is read of a tape, and a record's refusal.
 #![tactic(auto)]
 
-ghost use Rattle.std.specs.Prelude.{◌≡◌, [], ◌∷◌, Ok, Err};
+ghost use Rattle.std.specs.Prelude.{◌≡◌, true, false, MatchResult};
 ghost use Rattle.tape_records.specs.Answers.{alone, accepted};
-ghost use Rattle.world.specs.Refusal.{check, unless};
 
 use door::DoorCommand;
 use world::refusal::Refusal;
@@ -76,40 +75,26 @@ pub struct Decoded {
     pub serves: [u8; 64],
 }
 
-// The checks of a record without a list, in their order.
-pub fn checked(
-    cut_short: bool,
-    field_outside: bool,
-    float_outside: bool,
-    found: Record,
-    used: usize,
-) -> Result<Decoded, Refusal>
-    ensures { result ≡ unless (check Refusal.CutShort cut_short ∷ check Refusal.FieldOutside field_outside ∷ check Refusal.FloatOutside float_outside ∷ []) Err (Ok (accepted found used)) }
+// A refusal where its condition holds.
+pub fn refuse_if(holds: bool, refusal: Refusal) -> Result<(), Refusal>
+    ensures { MatchResult result (λ passed. holds ≡ false) (λ given. (holds ≡ true) × (given ≡ refusal)) }
 {
-    let read = Read::Accepted(found, used);
-    checked_read(cut_short, field_outside, float_outside, read)
+    if holds { Err(refusal) } else { Ok(()) }
 }
 
-// The same of what is read where none holds: a record or a tick.
-pub fn checked_read(
-    cut_short: bool,
-    field_outside: bool,
-    float_outside: bool,
-    read: Read,
-) -> Result<Decoded, Refusal>
-    ensures { result ≡ unless (check Refusal.CutShort cut_short ∷ check Refusal.FieldOutside field_outside ∷ check Refusal.FloatOutside float_outside ∷ []) Err (Ok (alone read)) }
+// What is read without a list.
+pub fn alone(read: Read) -> Decoded
+    ensures { result ≡ alone read }
 {
-    if cut_short {
-        return Err(Refusal::CutShort);
-    }
-    if field_outside {
-        return Err(Refusal::FieldOutside);
-    }
-    if float_outside {
-        return Err(Refusal::FloatOutside);
-    }
-    Ok(Decoded {
+    Decoded {
         read,
         serves: [0u8; 64],
-    })
+    }
+}
+
+// A record without a list, and the words that it takes.
+pub fn accepted(found: Record, used: usize) -> Decoded
+    ensures { result ≡ accepted found used }
+{
+    alone(Read::Accepted(found, used))
 }
