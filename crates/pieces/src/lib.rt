@@ -72,13 +72,12 @@ fn play_words(
     piece: &[u8],
     words: &[u32],
     ended: bool,
-    log: &mut [u32],
-    out: &mut [u8],
+    log: &mut [u32; 2048],
+    out: &mut [u8; 65536],
 ) -> Played
-    requires { (words.now ≡ words_of piece.now) × (length log.old ≡ 2048) × (length out.old ≡ 65536) }
+    requires { words.now ≡ words_of piece.now }
     ensures { Reached result piece.now out.old log.new out.new (play_to (2 + length piece.now) ended (playing study log.old piece.now)) }
 {
-    let end = words.len();
     let nothing = Ok(Accepted {
         used: 0,
         written: 0,
@@ -92,8 +91,8 @@ fn play_words(
     let mut at: usize = 0;
     let mut over = study.over;
     let mut from: usize = 0;
-    while goes(ended, over, end - from, at) {
-        made = turn(made.world, &words[from..end], log);
+    while goes(ended, over, words.len() - from, at) {
+        made = turn(made.world, &words[from..], log);
         let answer = made.answer;
         let told = tell_answer(answer, counts, log, out, at);
         counts = told.counts;
@@ -112,14 +111,19 @@ fn play_words(
 }
 
 // The records of these bytes.
-fn play_bytes(study: Study, bytes: &[u8], ended: bool, log: &mut [u32], out: &mut [u8]) -> Played
-    requires { (length bytes.now ≤ 16384) × (length log.old ≡ 2048) × (length out.old ≡ 65536) }
+fn play_bytes(
+    study: Study,
+    bytes: &[u8],
+    ended: bool,
+    log: &mut [u32; 2048],
+    out: &mut [u8; 65536],
+) -> Played
+    requires { length bytes.now ≤ 16384 }
     ensures { Reached result bytes.now out.old log.new out.new (play_to (2 + length bytes.now) ended (playing study log.old bytes.now)) }
 {
     let mut words = [0u32; 4096];
     let count = words_of(bytes, &mut words, 0);
-    let first: usize = 0;
-    play_words(study, bytes, &words[first..count], ended, log, out)
+    play_words(study, bytes, &words[..count], ended, log, out)
 }
 
 // The text's next place, and whether the study is over.
@@ -147,21 +151,20 @@ fn close(step: Step, ended: bool, left: usize, out: &mut [u8]) -> Closed
     }
 }
 
-// `advance`, on slices of these lengths.
-fn advance_on(
+// What is done with the bytes at hand, the first `held` of the piece: their records, and at the input's end the report. The text stands at the start
+// of `out`; the bytes that no record used are moved to the piece's start.
+pub fn advance(
     study: Study,
-    piece: &mut [u8],
+    piece: &mut [u8; 16384],
     held: usize,
     ended: bool,
-    log: &mut [u32],
-    out: &mut [u8],
+    log: &mut [u32; 2048],
+    out: &mut [u8; 65536],
 ) -> Advanced
-    requires { (length piece.old ≡ 16384) × (length log.old ≡ 2048) × (length out.old ≡ 65536) }
     ensures { Gives result piece.old out.old piece.new log.new out.new (advanced ended (playing study log.old (take held piece.old))) }
 {
     let end = held.min(piece.len());
-    let first: usize = 0;
-    let played = play_bytes(study, &piece[first..end], ended, log, out);
+    let played = play_bytes(study, &piece[..end], ended, log, out);
     let step = played.step;
     let used = played.from * 4;
     let closed = close(step, ended, end - used, out);
@@ -176,19 +179,4 @@ fn advance_on(
         held: keep(piece, used, end),
         at: closed.at,
     }
-}
-
-// What is done with the bytes at hand, the first `held` of the piece: their records, and at the input's end the report. The text stands at the start
-// of `out`; the bytes that no record used are moved to the piece's start.
-pub fn advance(
-    study: Study,
-    piece: &mut [u8; 16384],
-    held: usize,
-    ended: bool,
-    log: &mut [u32; 2048],
-    out: &mut [u8; 65536],
-) -> Advanced
-    ensures { Gives result piece.old out.old piece.new log.new out.new (advanced ended (playing study log.old (take held piece.old))) }
-{
-    advance_on(study, piece, held, ended, log, out)
 }

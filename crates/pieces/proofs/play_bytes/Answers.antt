@@ -8,7 +8,4 @@ use Rattle.pieces.proofs.Sizes.{words_few}
 use Rattle.pieces.proofs.play_bytes.Goals as goal
 
 pub play_words-requires : goal.play_words-requires
-play_words-requires c =
-    let s = c in
-    let w = c.words_of-count in
-    (rw sub-zero (wrote_taken w.ensures (simp length-replicate (omega (arith, s.requires.0, words_few s.args.bytes.now)))), s.requires.1, s.requires.2)
+play_words-requires c = wrote_taken c.words_of-count.ensures (simp length-replicate (omega (arith, c.requires, words_few c.args.bytes.now)))

@@ -15,7 +15,7 @@ pub loop-over-init : goal.loop-over-init
 loop-over-init c =
     let s = c in
     let a = s.args in
-    (s.requires.0, omega arith, going a.ended a.piece.now a.out.now a.log.now (begun a.study) refl s.requires.1 s.requires.2)
+    (s.requires, omega arith, going a.ended a.piece.now a.out.now a.log.now (begun a.study) refl s.told-log s.told-out)
 
 -- a turn of the loop goes on, and uses no word past the end
 goes_next : (c : After-struct_known-1) → let l = c.loop-over in let r = c.turn-made in let t = c.tell_answer-told in
@@ -71,9 +71,3 @@ returns c =
 
 pub slice_bounds-turn-count : goal.slice_bounds-turn-count
 slice_bounds-turn-count c = c.loop-over.invariant.1
-
-pub shape_of-log : goal.shape_of-log
-shape_of-log c = c.loop-over.invariant.2.lent ∙ sym c.requires.1
-
-pub shape_of-out : goal.shape_of-out
-shape_of-out c = wrote_length c.loop-over.invariant.2.wrote

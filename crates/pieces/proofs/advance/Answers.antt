@@ -1,4 +1,5 @@
--- `pieces::advance_on` meets its contract. Assumes nothing.
+-- `pieces::advance` meets its contract. Assumes nothing.
+use Rattle.std.proofs.Common.{ℕ, min, ap, sym, ◌∙◌}
 use mathlib.Core.Path.{◌≡◌, refl}
 use Prim.Native.Nat.{◌-◌}
 use native.Mathlib.Nat.{sub-zero}
@@ -7,7 +8,7 @@ use lib.ListN.{take, length-take}
 use borrow.Author.Rules.{rules}
 use Rattle.pieces.proofs.Sizes.{words_few}
 use Rattle.pieces.proofs.Going.{advances}
-use Rattle.pieces.proofs.advance_on.Goals as goal
+use Rattle.pieces.proofs.advance.Goals as goal
 
 pub returns : goal.returns
 returns c =
@@ -21,9 +22,9 @@ returns c =
     a.study
     a.log.now
     a.held
-    s.requires.2
-    m.ensures
-    (rw sub-zero at r.ensures)
+    s.told-out
+    (m.ensures ∙ ap (λ (n : ℕ). min a.held n) (sym s.told-piece))
+    r.ensures
     k.ensures
     t.ensures
 
@@ -31,10 +32,10 @@ pub overflow_mul-used : goal.overflow_mul-used
 overflow_mul-used c =
     let r = c.play_bytes-played in
     let m = c.min-end in
-    omega (arith, r.ensures.within, words_few (take (m.result - 0) c.args.piece.now), length-take (m.result - 0) c.args.piece.now)
+    omega (arith, r.ensures.within, words_few (take m.result c.args.piece.now), length-take m.result c.args.piece.now)
 
 pub overflow_sub-end : goal.overflow_sub-end
 overflow_sub-end c =
     let r = c.play_bytes-played in
     let m = c.min-end in
-    omega (arith, r.ensures.within, words_few (take (m.result - 0) c.args.piece.now), length-take (m.result - 0) c.args.piece.now)
+    omega (arith, r.ensures.within, words_few (take m.result c.args.piece.now), length-take m.result c.args.piece.now)
