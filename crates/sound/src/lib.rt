@@ -1,8 +1,8 @@
 // Refusal 0: whether a lent world has a count, a queue, a counter or a number that records never make.
 #![tactic(auto)]
 
-ghost use Rattle.std.specs.Prelude.{◌≡◌};
-ghost use Rattle.std.specs.List.{list_any};
+ghost use Rattle.std.specs.Prelude.{◌≡◌, ◌||◌, false};
+ghost use Rattle.std.specs.List.{fold};
 ghost use Rattle.sound_rows.specs.Rows as Rows;
 ghost use Rattle.sound.specs.Sound as Sound;
 ghost use Rattle.sound.specs.Parts as Parts;
@@ -20,21 +20,27 @@ fn calls_unloaded(stops: usize, calls: u64) -> bool
 }
 
 fn lines_broken(stops: usize, lines: &[Line]) -> bool
-    ensures { result ≡ list_any (λ line. Rows.line_broken stops line) lines.now }
+    ensures { result ≡ fold (λ found line. found || Rows.line_broken stops line) false lines.now }
 {
-    lines.iter().any(|line| line_broken(stops, *line))
+    lines
+        .iter()
+        .fold(false, |found, line| found | line_broken(stops, *line))
 }
 
 fn cars_broken(lines: usize, stops: usize, cars: &[Car]) -> bool
-    ensures { result ≡ list_any (λ car. Rows.car_broken lines stops car) cars.now }
+    ensures { result ≡ fold (λ found car. found || Rows.car_broken lines stops car) false cars.now }
 {
-    cars.iter().any(|car| car_broken(lines, stops, *car))
+    cars.iter()
+        .fold(false, |found, car| found | car_broken(lines, stops, *car))
 }
 
 fn riders_broken(stops: usize, cars: usize, riders: &[Rider]) -> bool
-    ensures { result ≡ list_any (λ rider. Rows.rider_broken stops cars rider) riders.now }
+    ensures { result ≡ fold (λ found rider. found || Rows.rider_broken stops cars rider) false riders.now }
 {
-    riders.iter().any(|rider| rider_broken(stops, cars, *rider))
+    riders.iter().fold(
+        false,
+        |found, rider| found | rider_broken(stops, cars, *rider),
+    )
 }
 
 #[tactic(auto, unfolding(crate::specs::Sound::counts_broken))]

@@ -1,10 +1,15 @@
 -- Whether one of the first items of a list passes a test, by their numbers. Assumes nothing.
-use Rattle.std.proofs.Common.{◌≡◌, ℕ, zero, suc, ◌≤◌, Bool, List, length, get_or, take, refl, sym, arith, add-one}
-use Rattle.std.specs.List.{list_any}
-use Rattle.std.proofs.lemmas.List.Folds.{list_any_more}
+use Rattle.std.proofs.Common.{◌≡◌, ◌≤◌, ℕ, zero, suc, Bool, List, length, get_or, take, refl, arith, add-one}
+use mathlib.Core.Bool.{false, ◌||◌}
+use Rattle.std.specs.List.{fold}
+use Rattle.std.proofs.lemmas.List.Sums.{fold_more}
 use Rattle.sound_rows.specs.Rows.{any_to}
 
-pub any_of_first : {X : Type 0} (p : X → Bool) (xs : List X) (d : X) (n : ℕ) → n ≤ length xs → list_any p (take n xs) ≡ any_to (λ k. p (get_or xs k d)) n
+-- what a loop over them comes to, which looks at each
+abbrev pub or_each : {X : Type 0} → (X → Bool) → List X → Bool
+or_each p = fold (λ found x. found || p x) false
+
+pub any_of_first : {X : Type 0} (p : X → Bool) (xs : List X) (d : X) (n : ℕ) → n ≤ length xs → or_each p (take n xs) ≡ any_to (λ k. p (get_or xs k d)) n
 unfolding any_to
 any_of_first p xs d zero h = refl
-any_of_first p xs d (suc n) h = rw (sym (any_of_first p xs d n (omega arith)), sym (list_any_more p xs n d h)) (rw add-one)
+any_of_first p xs d (suc n) h = rw (← any_of_first p xs d n (omega arith), ← fold_more (λ found x. found || p x) false xs n d h) (rw add-one)
