@@ -47,6 +47,7 @@ pub fn row_of(world: World, car: u8) -> Car
 
 // What every order to a car comes to: refused before the start, where the car or what else it names is not loaded, and where something hinders it; else
 // the car is as ordered.
+// Stays: a closure in place of the row and what hinders it would need a contract of its own at each caller.
 #[tactic(auto, unfolding(crate::specs::Parts::ordered))]
 pub fn ordered(world: World, car: u8, unnamed: bool, hindered: Option<Refusal>, row: Car) -> Changed
     ensures { result ≡ Parts.ordered world car unnamed hindered row }

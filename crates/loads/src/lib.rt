@@ -1,4 +1,5 @@
 // Kinds 1 to 4: what is loaded. What the state refuses, and the world after the record.
+// Stays: each check returns by itself. With ? a kind's checks would be a function apart, as a refusal comes with the world.
 #![tactic(auto)]
 
 ghost use Rattle.std.specs.Prelude.{◌≡◌, ◌+◌};

@@ -8,6 +8,7 @@ use changes::{Changed, ordered, row_of};
 use world::{Car, ServiceMode, World};
 
 // Kind 6.
+#[tactic(auto, unfolding(crate::specs::Modes::set_mode, changes::specs::Parts::ordered, changes::specs::Parts::row_of))]
 pub fn set_mode(world: World, car: u8, mode: ServiceMode) -> Changed
     ensures { result ≡ Modes.set_mode world car mode }
 {
@@ -20,6 +21,7 @@ pub fn set_mode(world: World, car: u8, mode: ServiceMode) -> Changed
 }
 
 // Kind 7.
+#[tactic(auto, unfolding(crate::specs::Modes::set_manual_speed, changes::specs::Parts::ordered, changes::specs::Parts::row_of))]
 pub fn set_manual_speed(world: World, car: u8, speed: Option<f64>) -> Changed
     ensures { result ≡ Modes.set_manual_speed world car speed }
 {
@@ -32,6 +34,7 @@ pub fn set_manual_speed(world: World, car: u8, speed: Option<f64>) -> Changed
 }
 
 // Kind B.
+#[tactic(auto, unfolding(crate::specs::Modes::set_enabled, changes::specs::Parts::ordered, changes::specs::Parts::row_of))]
 pub fn set_enabled(world: World, car: u8, enabled: bool) -> Changed
     ensures { result ≡ Modes.set_enabled world car enabled }
 {

@@ -30,6 +30,7 @@ fn sent(car: Car, stop: u8, reposition: bool) -> Car
 }
 
 // Kind 5.
+#[tactic(auto, unfolding(crate::specs::Orders::send, changes::specs::Parts::ordered, changes::specs::Parts::row_of))]
 pub fn send(world: World, car: u8, stop: u8, reposition: bool) -> Changed
     ensures { result ≡ Orders.send world car stop reposition }
 {

@@ -12,6 +12,7 @@ use world::refusal::Refusal;
 use world::World;
 
 // Kind 8.
+#[tactic(auto, unfolding(crate::specs::Requests::queue_command, changes::specs::Parts::ordered, changes::specs::Parts::row_of))]
 pub fn queue_command(world: World, car: u8, command: DoorCommand) -> Changed
     ensures { result ≡ Requests.queue_command world car command }
 {
@@ -46,6 +47,7 @@ pub fn press_hall_call(world: World, stop: u8, down: bool) -> Changed
 }
 
 // Kind A.
+#[tactic(auto, unfolding(crate::specs::Requests::push_destination, changes::specs::Parts::ordered, changes::specs::Parts::row_of))]
 pub fn push_destination(world: World, car: u8, stop: u8) -> Changed
     ensures { result ≡ Requests.push_destination world car stop }
 {

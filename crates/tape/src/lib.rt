@@ -11,6 +11,7 @@ use tape_records::Decoded;
 use world::refusal::Refusal;
 
 // The record that the words begin with.
+#[tactic(auto, unfolding(crate::specs::Tape::decoded, crate::specs::Tape::record_of))]
 pub fn decode(words: &[u32]) -> Result<Decoded, Refusal>
     ensures { result ≡ decoded words.now }
 {

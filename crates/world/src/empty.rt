@@ -59,6 +59,7 @@ fn empty_car() -> Car
 }
 
 // Nothing loaded or queued, no hall call, no start, no tick made and every counter 0.
+#[tactic(auto, unfolding(crate::specs::World::empty_world))]
 pub fn empty() -> World
     ensures { result ≡ empty_world }
 {
