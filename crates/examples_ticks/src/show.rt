@@ -167,7 +167,12 @@ impl fmt::Display for CarLine<'_> {
             Destinations(car),
             Commands(car)
         )?;
-        write!(f, "{} {}", Number(car.move_count), OrDash(car.cooldown.map(Number)))
+        write!(
+            f,
+            "{} {}",
+            Number(car.move_count),
+            OrDash(car.cooldown.map(Number))
+        )
     }
 }
 

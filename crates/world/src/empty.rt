@@ -3,8 +3,7 @@ ghost use Rattle.std.specs.Prelude.{◌≡◌};
 ghost use Rattle.world.specs.World.{new_car, empty_car, empty_world};
 
 use crate::{
-    Car, CarPlan, ElevatorPhase, Line, LineKind, Motion, Rider, RiderPhase,
-    ServiceMode, World,
+    Car, CarPlan, ElevatorPhase, Line, LineKind, Motion, Rider, RiderPhase, ServiceMode, World,
 };
 use door::{DoorCommand, DoorState};
 

@@ -128,6 +128,7 @@ impl Lamps {
         going_up: true,
         going_down: true,
     };
+
     pub const NONE: Lamps = Lamps {
         going_up: false,
         going_down: false,
