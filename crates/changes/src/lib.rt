@@ -27,6 +27,7 @@ pub fn refused(world: World, refusal: Refusal) -> Changed
     }
 }
 
+// Stays: this and `refused`: two answers, which share nothing but the struct.
 pub fn accepted(world: World) -> Changed
     ensures { result ≡ Changes.accepted world }
 {

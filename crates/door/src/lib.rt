@@ -33,6 +33,7 @@ pub enum DoorCommand {
 }
 
 // The phase that a tick ended, if any.
+// Stays: the Rust's own enum. As an Option of three endings it would part from the Rust's names.
 #[derive(Clone, Copy, PartialEq, Eq)]
 pub enum DoorTransition {
     None,

@@ -77,6 +77,7 @@ pub fn load_car(world: World, number: u8, plan: CarPlan) -> Changed
 }
 
 // Kind 1.
+// Stays: beside load_car: each names its own table, count and row.
 #[tactic(auto, unfolding(crate::specs::Loads::load_line))]
 pub fn load_line(
     world: World,

@@ -49,6 +49,7 @@ pub fn find_stop_at_position(stops: &[f64; 64], stop_count: usize, position: f64
 
 // world.rs, find_stop_at_position_in
 #[tactic(auto, using(crate::proofs::Standing::standing), unfolding(crate::specs::Stops::find_stop_at_position_in))]
+// Stays: beside the look-up above, as in the Rust: that one tries all numbers, this one a list of them.
 pub fn find_stop_at_position_in(
     stops: &[f64; 64],
     position: f64,

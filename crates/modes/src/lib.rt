@@ -22,6 +22,7 @@ pub fn set_mode(world: World, car: u8, mode: ServiceMode) -> Changed
 
 // Kind 7.
 #[tactic(auto, unfolding(crate::specs::Modes::set_manual_speed, changes::specs::Parts::ordered, changes::specs::Parts::row_of))]
+// Stays: a function a kind, each of another field: a parameter for the field would be no plainer.
 pub fn set_manual_speed(world: World, car: u8, speed: Option<f64>) -> Changed
     ensures { result ≡ Modes.set_manual_speed world car speed }
 {

@@ -5,6 +5,7 @@ ghost use Rattle.std.specs.Prelude.{◌≡◌};
 ghost use Rattle.motion.specs.Cyclic as Cyclic;
 ghost use Rattle.motion.specs.Movement as Movement;
 
+// Stays: C calls each by its name, on plain numbers.
 use motion::movement::MovementResult;
 use motion::{cyclic, movement};
 

@@ -91,6 +91,7 @@ fn play_words(
     let mut at: usize = 0;
     let mut over = study.over;
     let mut from: usize = 0;
+    // Stays: a while: the loop goes on by what was told last, and counts no index.
     while goes(ended, over, words.len() - from, at) {
         made = turn(made.world, &words[from..], log);
         let answer = made.answer;

@@ -20,6 +20,7 @@ pub fn decode(words: &[u32]) -> Result<Decoded, Refusal>
     }
     let head = head_of(words[0]);
     let kind = head.kind;
+    // Stays: the kinds' numbers stand once, here. An enum of the kinds with TryFrom would be a second table of them.
     match kind {
         1 => tape_loads::decode_line(head, words),
         2 => tape_loads::decode_stop(head, words),

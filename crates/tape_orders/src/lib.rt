@@ -91,6 +91,7 @@ pub fn decode_door_command(head: Head) -> Result<Decoded, Refusal>
     Ok(accepted(record, 1))
 }
 
+// Stays: here and below a function a kind: each has its own codes and fields.
 pub fn decode_hall_call(head: Head) -> Result<Decoded, Refusal>
     ensures { result ≡ answer (hall_call_record head) }
 {

@@ -36,6 +36,7 @@ fn accelerated(velocity: f64, sign: f64, max_speed: f64, acceleration: f64, dt: 
 }
 
 // tick_movement's new_velocity, its `sign` and `displacement` given.
+// Stays: the parameters are those of tick_movement, in the Rust's order.
 #[tactic(auto, unfolding(crate::specs::Velocity::new_velocity))]
 pub fn new_velocity(
     displacement: f64,

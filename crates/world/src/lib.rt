@@ -19,6 +19,7 @@ pub enum LineKind {
 }
 
 // A line: its kind, and the stops that it serves in order; `listed` is false where it has no list.
+// Stays: `listed` and no Option of the list. Refusal 0 looks at the count of a line without a list too.
 #[derive(Clone, Copy)]
 pub struct Line {
     pub kind: LineKind,
@@ -142,6 +143,7 @@ pub struct Queue {
     pub count: usize,
 }
 
+// Stays: tables of a fixed size with their counts. A world goes by value, and no call may run out of memory.
 #[derive(Clone, Copy)]
 pub struct World {
     // the tables side by side, so that a copy of the world is one move of memory
