@@ -6,11 +6,11 @@ use Rattle.beside_ticks.proofs.Playing.{begins, rest_of, within, stays, again}
 use Rattle.beside_ticks.proofs.play.Goals as goal
 
 pub loop-i-init : goal.loop-i-init
-loop-i-init c = (search rules, search rules, refl, begins c.args.words.now c.args.log.now c.nothing-made.ensures.1)
+loop-i-init g c = (search rules, search rules, refl, begins c.args.words.now c.args.log.now c.nothing-made.ensures.1)
 
 pub loop-i-preserved : goal.loop-i-preserved
 unfolding plus
-loop-i-preserved c =
+loop-i-preserved g c =
     let a = c.args in
     let l = c.loop-i in
     let o = rw (rest_of a.words.now l.used) at c.call-made.ensures in
@@ -22,20 +22,20 @@ loop-i-preserved c =
     )
 
 pub overflow_add-used : goal.overflow_add-used
-overflow_add-used c =
+overflow_add-used g c =
     let a = c in
     let l = c.loop-i in
     let o = rw (rest_of a.args.words.now l.used) at c.call-made.ensures in
     omega (arith, within l.made.world a.args.words.now l.log l.used o l.invariant.1 c.used_of-used.ensures)
 
 pub returns : goal.returns
-returns c =
+returns g c =
     let l = c.loop-i in
     let e : l.i ≡ c.args.records = omega (arith, l.invariant.0, c.loop-i-test.false) in
     rw (← e) l.invariant.3
 
 pub slice_bounds-call-start : goal.slice_bounds-call-start
-slice_bounds-call-start c = c.loop-i.invariant.1
+slice_bounds-call-start g c = c.loop-i.invariant.1
 
 pub shape_of-log : goal.shape_of-log
-shape_of-log c = c.loop-i.invariant.2
+shape_of-log g c = c.loop-i.invariant.2

@@ -6,5 +6,5 @@ use Rattle.beside_ticks.proofs.Playing.{begins, rest_of, within, stays, again}
 use Rattle.beside_ticks.proofs.play.Given as goal
 
 abbrev pub invariant-loop-i : goal.invariant-loop-i
-invariant-loop-i l =
+invariant-loop-i g l =
     (l.i ≤ l.records) × (l.used ≤ length l.words) × (length l.log ≡ length l.initial.log) × Reached (played_to l.words l.initial.log l.i) l.made.world l.log l.used l.written

@@ -10,7 +10,7 @@ loop-i-init c = (search rules, refl)
 
 pub loop-i-preserved : goal.loop-i-preserved
 unfolding sum_to plus
-loop-i-preserved c = (search rules, rw (add-one, ← c.loop-i.invariant.1, c.sum.ensures))
+loop-i-preserved c = (search rules, rw (add-one, ← c.loop-i.invariant.1, c.sum-total.ensures))
 
 pub returns : goal.returns
 returns c = let e : c.loop-i.i ≡ 16 = omega (arith, c.loop-i.invariant.0, c.loop-i-test.false) in rw e at c.loop-i.invariant.1

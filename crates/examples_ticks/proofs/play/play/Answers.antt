@@ -6,11 +6,11 @@ use Rattle.examples_ticks.proofs.play.play.Goals as goal
 pub slice_bounds-words-end : goal.slice_bounds-words-end
 slice_bounds-words-end g c = (takes _ _ _ c.record-recorded.ensures c.in-Ok.is).written
 
-pub slice_bounds-words-end-then-written-gt0 : goal.slice_bounds-words-end-then-written-gt0
-slice_bounds-words-end-then-written-gt0 g c = search (rules, (takes _ _ _ c.record-recorded.ensures c.in-Ok.is).written)
+pub slice_bounds-words-end-then-accepted-gt0 : goal.slice_bounds-words-end-then-accepted-gt0
+slice_bounds-words-end-then-accepted-gt0 g c = search (rules, (takes _ _ _ c.record-recorded.ensures c.in-Ok.is).written)
 
-pub offset_bounds-rest-used : goal.offset_bounds-rest-used
-offset_bounds-rest-used g c = search (rules, (takes _ _ _ c.record-recorded.ensures c.in-Ok.is).within)
+pub offset_bounds-rest-accepted : goal.offset_bounds-rest-accepted
+offset_bounds-rest-accepted g c = search (rules, (takes _ _ _ c.record-recorded.ensures c.in-Ok.is).within)
 
 pub slice_bounds-rest-count : goal.slice_bounds-rest-count
 slice_bounds-rest-count g c = (takes _ _ _ c.record-recorded.ensures c.in-Ok.is).within
