@@ -3,7 +3,7 @@
 
 ghost use Rattle.std.specs.Prelude.{◌≡◌, Ok};
 ghost use Rattle.float.specs.Float.{number_bits};
-ghost use Rattle.record.specs.Record.{Gives, record_of, used_of, written_of};
+ghost use Rattle.record.specs.Record.{used_of, written_of};
 ghost use Rattle.laws.specs.Numbers.{plus};
 ghost use Rattle.world.specs.World.{empty_world};
 ghost use Rattle.beside_ticks.specs.Bench as Bench;
@@ -46,39 +46,37 @@ fn nothing() -> Recorded
     Recorded { answer, world }
 }
 
-// A record call of the library.
-trait RecordCall {
-    fn call(world: World, words: &[u32], log: &mut [u32]) -> Recorded
-        ensures { Gives result log.new (record_of world words.now log.old) };
-}
-
-// The call that takes the world by value.
-struct ByValue;
-
-impl RecordCall for ByValue {
-    fn call(world: World, words: &[u32], log: &mut [u32]) -> Recorded {
-        record(world, words, log)
-    }
-}
-
-// The call that is lent the world.
-struct ByLending;
-
-impl RecordCall for ByLending {
-    fn call(world: World, words: &[u32], log: &mut [u32]) -> Recorded {
-        turn(world, words, log)
-    }
-}
-
-// So many records. What a call made stays where it is, and its world is handed to the next call.
-fn play<C: RecordCall>(words: &[u32], log: &mut [u32], records: u64) -> Played
+// By the call that takes the world by value. What it made stays where it is, and its world is handed to the next call.
+fn by_value(words: &[u32], log: &mut [u32], records: u64) -> Played
     ensures { Bench.Reached (Bench.played_to words.now log.old records) result.world log.new result.used result.written }
 {
     let mut made = nothing();
     let mut used: usize = 0;
     let mut written: u64 = 0;
     for i in 0..records {
-        made = C::call(made.world, &words[used..], log);
+        made = record(made.world, &words[used..], log);
+        let answer = made.answer;
+        used += used_of(answer);
+        written = written.wrapping_add(written_of(answer) as u64);
+    }
+    let world = made.world;
+    Played {
+        world,
+        used,
+        written,
+    }
+}
+
+// By the call that is lent the world, likewise.
+// Stays: two loops. One over a trait of record calls makes and clears a world more in each turn: 21,700 instructions a tick in place of 11,200.
+fn by_lending(words: &[u32], log: &mut [u32], records: u64) -> Played
+    ensures { Bench.Reached (Bench.played_to words.now log.old records) result.world log.new result.used result.written }
+{
+    let mut made = nothing();
+    let mut used: usize = 0;
+    let mut written: u64 = 0;
+    for i in 0..records {
+        made = turn(made.world, &words[used..], log);
         let answer = made.answer;
         used += used_of(answer);
         written = written.wrapping_add(written_of(answer) as u64);
@@ -123,7 +121,7 @@ pub extern "C" fn bench_records(words: &[u32], records: u64) -> u64
     ensures { result ≡ Bench.bench_records words.now records }
 {
     let mut log = [0u32; 2048];
-    sum_of(play::<ByValue>(words, &mut log, records))
+    sum_of(by_value(words, &mut log, records))
 }
 
 // The same by the lent call.
@@ -132,5 +130,5 @@ pub extern "C" fn bench_lent_records(words: &[u32], records: u64) -> u64
     ensures { result ≡ Bench.bench_records words.now records }
 {
     let mut log = [0u32; 2048];
-    sum_of(play::<ByLending>(words, &mut log, records))
+    sum_of(by_lending(words, &mut log, records))
 }

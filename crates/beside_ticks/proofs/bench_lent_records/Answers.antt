@@ -5,4 +5,4 @@ use Rattle.beside_ticks.proofs.bench_lent_records.Goals as goal
 
 pub returns : goal.returns
 unfolding bench_records
-returns c = c.sum_of.ensures ∙ rw (c.play.ensures.world, c.play.ensures.written)
+returns c = c.sum_of.ensures ∙ rw (c.by_lending.ensures.world, c.by_lending.ensures.written)

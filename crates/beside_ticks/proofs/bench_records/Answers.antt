@@ -5,4 +5,4 @@ use Rattle.beside_ticks.proofs.bench_records.Goals as goal
 
 pub returns : goal.returns
 unfolding bench_records
-returns c = c.sum_of.ensures ∙ rw (c.play.ensures.world, c.play.ensures.written)
+returns c = c.sum_of.ensures ∙ rw (c.by_value.ensures.world, c.by_value.ensures.written)

@@ -1,19 +1,19 @@
--- `beside_ticks::play` meets its contract. Assumes nothing.
+-- `beside_ticks::by_value` meets its contract. Assumes nothing.
 use Rattle.std.proofs.Common.{◌≡◌, ◌-◌, ◌≤◌, length, refl, ◌∙◌, arith, rules}
 use Rattle.beside_ticks.specs.Bench.{played_to, Reached}
 use Rattle.laws.specs.Numbers.{plus}
 use Rattle.beside_ticks.proofs.Playing.{begins, rest_of, within, stays, again}
-use Rattle.beside_ticks.proofs.play.Goals as goal
+use Rattle.beside_ticks.proofs.by_value.Goals as goal
 
 pub loop-i-init : goal.loop-i-init
-loop-i-init g c = (search rules, search rules, refl, begins c.args.words.now c.args.log.now c.nothing-made.ensures.1)
+loop-i-init c = (search rules, search rules, refl, begins c.args.words.now c.args.log.now c.nothing-made.ensures.1)
 
 pub loop-i-preserved : goal.loop-i-preserved
 unfolding plus
-loop-i-preserved g c =
+loop-i-preserved c =
     let a = c.args in
     let l = c.loop-i in
-    let o = rw (rest_of a.words.now l.used) at c.call-made.ensures in
+    let o = rw (rest_of a.words.now l.used) at c.record-made.ensures in
     let u = c.used_of-used.ensures in (
       search rules,
       within l.made.world a.words.now l.log l.used o l.invariant.1 u,
@@ -22,20 +22,20 @@ loop-i-preserved g c =
     )
 
 pub overflow_add-used : goal.overflow_add-used
-overflow_add-used g c =
+overflow_add-used c =
     let a = c in
     let l = c.loop-i in
-    let o = rw (rest_of a.args.words.now l.used) at c.call-made.ensures in
+    let o = rw (rest_of a.args.words.now l.used) at c.record-made.ensures in
     omega (arith, within l.made.world a.args.words.now l.log l.used o l.invariant.1 c.used_of-used.ensures)
 
 pub returns : goal.returns
-returns g c =
+returns c =
     let l = c.loop-i in
     let e : l.i ≡ c.args.records = omega (arith, l.invariant.0, c.loop-i-test.false) in
     rw (← e) l.invariant.3
 
-pub slice_bounds-call-start : goal.slice_bounds-call-start
-slice_bounds-call-start g c = c.loop-i.invariant.1
+pub slice_bounds-record-start : goal.slice_bounds-record-start
+slice_bounds-record-start c = c.loop-i.invariant.1
 
 pub shape_of-log : goal.shape_of-log
-shape_of-log g c = c.loop-i.invariant.2
+shape_of-log c = c.loop-i.invariant.2
