@@ -42,38 +42,38 @@ riders_to riders stops i stop zero = unlit
 riders_to riders stops i stop (suc n) = needing_rider (rider_at riders n) (riders_to riders stops i stop n) stops i stop
 
 -- and the first n of the queue
-unfoldable pub queued_to : Queue → List Float → Lamps → Float → ℕ → Lamps
+unfoldable pub queued_to : Queue ℕ → List Float → Lamps → Float → ℕ → Lamps
 queued_to queue stops l stop zero = l
-queued_to queue stops l stop (suc n) = needing (queued_to queue stops l stop n) (stop_at stops (get_or queue.stops n 0)) stop
+queued_to queue stops l stop (suc n) = needing (queued_to queue stops l stop n) (stop_at stops (get_or queue.items n 0)) stop
 
 -- no committed next direction: both
 abbrev pub both_if_none : Lamps → Lamps
 both_if_none l = cond (not l.going_up && not l.going_down) both_lit l
 
-unfoldable pub direction_from_remaining_work : List Rider → ℕ → Queue → List Float → ℕ → Float → Lamps
-direction_from_remaining_work riders count queue stops i stop =
-    both_if_none (queued_to queue stops (riders_to riders stops i stop (min count 128)) stop (min queue.count 8))
+unfoldable pub direction_from_remaining_work : Table Rider 128 → Queue ℕ → List Float → ℕ → Float → Lamps
+direction_from_remaining_work riders queue stops i stop =
+    both_if_none (queued_to queue stops (riders_to riders.items stops i stop (min riders.count 128)) stop (min queue.count 8))
 
 -- ---- the queue's front popped where it is the stop
 
 abbrev pub shifted : List ℕ → List ℕ
 shifted q = get_or q 1 0 ∷ get_or q 2 0 ∷ get_or q 3 0 ∷ get_or q 4 0 ∷ get_or q 5 0 ∷ get_or q 6 0 ∷ get_or q 7 0 ∷ 0 ∷ []
 
-unfoldable pub popped : Car → ℕ → Queue
+unfoldable pub popped : Car → ℕ → Queue ℕ
 popped c s =
     cond
-    (ltb 0 c.destination_count && eqb (get_or c.destination_queue 0 0) s)
-    (record { stops = shifted c.destination_queue; count = c.destination_count - 1 })
-    (record { stops = c.destination_queue; count = c.destination_count })
+    (ltb 0 c.destination_queue.count && eqb (get_or c.destination_queue.items 0 0) s)
+    (record { items = shifted c.destination_queue.items; count = c.destination_queue.count - 1 })
+    c.destination_queue
 
 -- ---- the lamps on arrival
 
 -- direction_from_remaining_work of a car that goes to a stop
-abbrev pub work_of : Trip → List Rider → ℕ → Car → List Float → ℕ → Lamps
-work_of Rests riders count c stops i = lamps_of c
-work_of Drives riders count c stops i = lamps_of c
-work_of (GoesTo s) riders count c stops i = direction_from_remaining_work riders count (popped c s) stops i (stop_at stops s)
-work_of (Repositions s) riders count c stops i = lamps_of c
+abbrev pub work_of : Trip → Table Rider 128 → Car → List Float → ℕ → Lamps
+work_of Rests riders c stops i = c.lamps
+work_of Drives riders c stops i = c.lamps
+work_of (GoesTo s) riders c stops i = direction_from_remaining_work riders (popped c s) stops i (stop_at stops s)
+work_of (Repositions s) riders c stops i = c.lamps
 
 -- whether a turn asks for it: the car comes to its stop, and "Loop cars don't carry up/down lamps": theirs stay as they are
 abbrev pub asks_work : Trip → LineKind → Bool → Bool

@@ -5,9 +5,8 @@ ghost use Rattle.std.specs.Prelude.{◌≡◌, min};
 ghost use Rattle.arrival.specs.Arrival as Arrival;
 
 use lookup::stops::stop_position;
-use steps::lamps_of;
 use trips::{Trip, is_loop};
-use world::{Car, Lamps, LineKind, Queue, Rider};
+use world::{Car, Lamps, LineKind, Queue, Rider, Table};
 
 // needs_up and needs_down with one more position.
 fn needing(lamps: Lamps, position: f64, stop: f64) -> Lamps
@@ -39,17 +38,16 @@ fn needing_rider(rider: &Rider, lamps: Lamps, stops: &[f64; 64], number: u8, sto
 // What the riders aboard need.
 #[tactic(auto, using(crate::proofs::Needs::no_rider_yet))]
 fn riders_need(
-    riders: [Rider; 128],
-    rider_count: usize,
+    riders: &Table<Rider, 128>,
     stops: &[f64; 64],
     number: u8,
     stop: f64,
 ) -> Lamps
-    ensures { result ≡ Arrival.riders_to riders stops.now number stop (min rider_count 128) }
+    ensures { result ≡ Arrival.riders_to riders.now.items stops.now number stop (min riders.now.count 128) }
 {
-    let count = rider_count.min(128);
+    let count = riders.count.min(128);
     let mut lamps = Lamps::NONE;
-    for rider in &riders[..count] {
+    for rider in &riders.items[..count] {
         lamps = needing_rider(rider, lamps, stops, number, stop);
     }
     lamps
@@ -57,12 +55,12 @@ fn riders_need(
 
 // What the riders and the queue need.
 #[tactic(auto, using(crate::proofs::Needs::queue_turn))]
-fn queue_needs(queue: Queue, stops: &[f64; 64], riders: Lamps, stop: f64) -> Lamps
+fn queue_needs(queue: Queue<u8>, stops: &[f64; 64], riders: Lamps, stop: f64) -> Lamps
     ensures { result ≡ Arrival.queued_to queue stops.now riders stop (min queue.count 8) }
 {
     let count = queue.count.min(8);
     let mut lamps = riders;
-    for &s in &queue.stops[..count] {
+    for &s in &queue.items[..count] {
         lamps = needing(lamps, stop_position(stops, s), stop);
     }
     lamps
@@ -81,16 +79,15 @@ fn both_if_none(lamps: Lamps) -> Lamps
 // movement.rs, direction_from_remaining_work
 #[tactic(auto, unfolding(crate::specs::Arrival::direction_from_remaining_work))]
 pub fn direction_from_remaining_work(
-    riders: [Rider; 128],
-    rider_count: usize,
-    queue: Queue,
+    riders: &Table<Rider, 128>,
+    queue: Queue<u8>,
     stops: &[f64; 64],
     number: u8,
     stop: f64,
 ) -> Lamps
-    ensures { result ≡ Arrival.direction_from_remaining_work riders rider_count queue stops.now number stop }
+    ensures { result ≡ Arrival.direction_from_remaining_work riders.now queue stops.now number stop }
 {
-    let aboard = riders_need(riders, rider_count, stops, number, stop);
+    let aboard = riders_need(riders, stops, number, stop);
     both_if_none(queue_needs(queue, stops, aboard, stop))
 }
 
@@ -103,18 +100,17 @@ fn shifted(q: [u8; 8]) -> [u8; 8]
 
 // The queue without its front, where that is the stop.
 #[tactic(auto, unfolding(crate::specs::Arrival::popped))]
-pub fn popped(car: Car, s: u8) -> Queue
+pub fn popped(car: Car, s: u8) -> Queue<u8>
     ensures { result ≡ Arrival.popped car s }
 {
-    let stops = car.destination_queue;
-    let count = car.destination_count;
-    if (0 < count) & (stops[0] == s) {
+    let queue = car.destination_queue;
+    if (0 < queue.count) & (queue.items[0] == s) {
         return Queue {
-            stops: shifted(stops),
-            count: count - 1,
+            items: shifted(queue.items),
+            count: queue.count - 1,
         };
     }
-    Queue { stops, count }
+    queue
 }
 
 // Whether a turn asks for direction_from_remaining_work: it comes to a stop of a linear line. A loop car's lamps stay as they are.
@@ -127,23 +123,21 @@ pub fn asks_work(trip: Trip, kind: LineKind, arrived: bool) -> bool
 // direction_from_remaining_work of a car that goes to a stop.
 pub fn work_of(
     trip: Trip,
-    riders: [Rider; 128],
-    rider_count: usize,
+    riders: &Table<Rider, 128>,
     car: Car,
     stops: &[f64; 64],
     number: u8,
 ) -> Lamps
-    ensures { result ≡ Arrival.work_of trip riders rider_count car stops.now number }
+    ensures { result ≡ Arrival.work_of trip riders.now car stops.now number }
 {
     match trip {
         Trip::GoesTo(s) => direction_from_remaining_work(
             riders,
-            rider_count,
             popped(car, s),
             stops,
             number,
             stop_position(stops, s),
         ),
-        _ => lamps_of(car),
+        _ => car.lamps,
     }
 }

@@ -48,7 +48,7 @@ sum_to cars (suc i) =
 
 -- of the cars' places and speeds, the moves and the log words
 unfoldable pub sum_of : World → ℕ → ℕ
-sum_of w written = plus (sum_to w.cars 16) (plus w.total_moves written)
+sum_of w written = plus (sum_to w.cars.items 16) (plus w.total_moves written)
 
 unfoldable pub bench_records : List ℕ → ℕ → ℕ
 bench_records words records = let p = played_to words (replicate 2048 0) records in sum_of p.world p.written

@@ -110,7 +110,7 @@ fn sum_of(played: Played) -> u64
     ensures { result ≡ Bench.sum_of played.world played.written }
 {
     let world = played.world;
-    let cars = world.cars;
+    let cars = world.cars.items;
     let moves = world.total_moves.wrapping_add(played.written);
     sum_of_cars(cars).wrapping_add(moves)
 }

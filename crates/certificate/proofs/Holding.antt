@@ -68,43 +68,43 @@ held_step {n} {cs} {count} {log} {ws} i c h inside l own other =
 -- ---- a run of the cars, whatever their turn is, and a relation of the car before to the car after
 
 -- it changes neither the table's size nor how many cars there are
-size : (turn : World → ℕ → Step) (w : World) (k : ℕ) → length (run_to turn w k).world.cars ≡ length w.cars
-size turn w = kept turn w (λ (v : World). length v.cars) (λ v i s. length-set v.cars i s.car)
+size : (turn : World → ℕ → Step) (w : World) (k : ℕ) → length (run_to turn w k).world.cars.items ≡ length w.cars.items
+size turn w = kept turn w (λ (v : World). length v.cars.items) (λ v i s. length-set v.cars.items i s.car)
 
-pub run_full : (turn : World → ℕ → Step) (w : World) → length (run_cars turn w).world.cars ≡ length w.cars
+pub run_full : (turn : World → ℕ → Step) (w : World) → length (run_cars turn w).world.cars.items ≡ length w.cars.items
 unfolding run_cars
-run_full turn w = size turn w (min w.car_count 16)
+run_full turn w = size turn w (min w.cars.count 16)
 
-pub run_count : (turn : World → ℕ → Step) (w : World) → (run_cars turn w).world.car_count ≡ w.car_count
+pub run_count : (turn : World → ℕ → Step) (w : World) → (run_cars turn w).world.cars.count ≡ w.cars.count
 unfolding run_cars
-run_count turn w = kept turn w (λ (v : World). v.car_count) (λ v i s. refl) (min w.car_count 16)
+run_count turn w = kept turn w (λ (v : World). v.cars.count) (λ v i s. refl) (min w.cars.count 16)
 
 pub record Ran (Keep : Car → Car → Type 0) (n : ℕ) (w : World) (log : List ℕ) (r : Run) : Type 0 where
-  pub held : Held n r.world.cars w.car_count (log ++ r.words)
-  pub keeps : Keep (car_at w.cars n) (car_at r.world.cars n)
+  pub held : Held n r.world.cars.items w.cars.count (log ++ r.words)
+  pub keeps : Keep (car_at w.cars.items n) (car_at r.world.cars.items n)
 
 module _
     (turn : World → ℕ → Step)
     (Keep : Car → Car → Type 0)
     (same : (c : Car) → Keep c c)
     (then : (a b c : Car) → Keep a b → Keep b c → Keep a c)
-    (good : (v : World) (i : ℕ) (o : Bool) → i < 16 → Fit (car_at v.cars i) o → Good i o (turn v i).car (turn v i).words)
-    (keep : (v : World) (i : ℕ) (o : Bool) → i < 16 → Fit (car_at v.cars i) o → Keep (car_at v.cars i) (turn v i).car)
+    (good : (v : World) (i : ℕ) (o : Bool) → i < 16 → Fit (car_at v.cars.items i) o → Good i o (turn v i).car (turn v i).words)
+    (keep : (v : World) (i : ℕ) (o : Bool) → i < 16 → Fit (car_at v.cars.items i) o → Keep (car_at v.cars.items i) (turn v i).car)
     (silent : (v : World) (i n : ℕ) → i < 16 → (n ≡ i → ⊥) → Silent n (turn v i).words)
     (n : ℕ)
     (w : World)
     (log : List ℕ)
-    (full : length w.cars ≡ 16)
+    (full : length w.cars.items ≡ 16)
   where
-    run_step : (i : ℕ) → i < min w.car_count 16 → Ran Keep n w log (run_to turn w i) → Ran Keep n w log (run_to turn w (suc i))
+    run_step : (i : ℕ) → i < min w.cars.count 16 → Ran Keep n w log (run_to turn w i) → Ran Keep n w log (run_to turn w (suc i))
     unfolding run_to
     run_step i l h = record {
       held = rw (← append_assoc log r.words s.words)
           (held_step i s.car h.held inside loaded (λ e f. good r.world i ajar low f) (silent r.world i n low));
-      keeps = then (car_at w.cars n) (car_at r.world.cars n) (car_at (set r.world.cars i s.car) n) h.keeps
+      keeps = then (car_at w.cars.items n) (car_at r.world.cars.items n) (car_at (set r.world.cars.items i s.car) n) h.keeps
           (same? i n
-          (λ (e : n ≡ i). rw (e, get_or-set_same r.world.cars i s.car no_car inside) (keep r.world i ajar low (rw e at (h.held.fit (omega (arith, loaded, e))))))
-          (λ (e : n ≡ i → ⊥). rw (get_or-set_other r.world.cars i n s.car no_car e) (same (car_at r.world.cars n))));
+          (λ (e : n ≡ i). rw (e, get_or-set_same r.world.cars.items i s.car no_car inside) (keep r.world i ajar low (rw e at (h.held.fit (omega (arith, loaded, e))))))
+          (λ (e : n ≡ i → ⊥). rw (get_or-set_other r.world.cars.items i n s.car no_car e) (same (car_at r.world.cars.items n))));
     }
       where
         r : Run
@@ -116,17 +116,17 @@ module _
         low : i < 16
         low = omega (arith, l)
 
-        loaded : i < w.car_count
+        loaded : i < w.cars.count
         loaded = omega (arith, l)
 
-        inside : i < length r.world.cars
+        inside : i < length r.world.cars.items
         inside = omega (arith, low, full, size turn w i)
 
         ajar : Bool
         ajar = open_after i false (log ++ r.words)
 
-    pub run_ran : Held n w.cars w.car_count log → Ran Keep n w log (run_cars turn w)
+    pub run_ran : Held n w.cars log → Ran Keep n w log (run_cars turn w)
     unfolding run_cars run_to
     run_ran h =
-        by_turns turn w (λ k. Ran Keep n w log) (min w.car_count 16) (record { held = rw (append-nil log) h; keeps = same (car_at w.cars n) })
-        run_step (min w.car_count 16) (omega arith)
+        by_turns turn w (λ k. Ran Keep n w log) (min w.cars.count 16) (record { held = rw (append-nil log) h; keeps = same (car_at w.cars.items n) })
+        run_step (min w.cars.count 16) (omega arith)

@@ -110,34 +110,34 @@ none_to f (suc n) h i l =
 count_low : (lines stops : ℕ) (c : Car) → car_broken lines stops c ≡ false → c.move_count < 2 ^ 48
 unfolding car_broken
 count_low lines stops c h =
-    let a = ltb 8 c.destination_count || ltb 8 c.command_count in
+    let a = ltb 8 c.destination_queue.count || ltb 8 c.door_command_queue.count in
     let b = leb (2 ^ 48) c.move_count in
     let d = unloaded lines c.line in
     let e = phase_unloaded stops c.phase in
     let f = stop_unloaded stops c.target_stop in
-    let g = any_to (λ k. unloaded stops (get_or c.destination_queue k 0)) c.destination_count in
+    let g = any_to (λ k. unloaded stops (get_or c.destination_queue.items k 0)) c.destination_queue.count in
     leb-false (2 ^ 48) c.move_count (or_right a b (or_left (a || b) d (or_left (a || b || d) e (or_left (a || b || d || e) f (or_left (a || b || d || e || f) g h)))))
 
 pub record Unbroken (w : World) : Type 0 where
   pub low : Low w
-  pub few : w.car_count ≤ 16
+  pub few : w.cars.count ≤ 16
 
 pub unbroken : (w : World) → broken w ≡ false → Unbroken w
 unfolding broken
 unbroken w h =
     let a = counts_broken w in
-    let b = any_to (λ i. line_broken w.stop_count (line_at w.lines i)) w.line_count in
-    let c = any_to (λ i. car_broken w.line_count w.stop_count (car_at w.cars i)) w.car_count in
-    let d = any_to (λ i. rider_broken w.stop_count w.car_count (rider_at w.riders i)) w.rider_count in
-    let e = calls_unloaded w.stop_count w.up_calls in
-    let f = calls_unloaded w.stop_count w.down_calls in
+    let b = any_to (λ i. line_broken w.stops.count (line_at w.lines.items i)) w.lines.count in
+    let c = any_to (λ i. car_broken w.lines.count w.stops.count (car_at w.cars.items i)) w.cars.count in
+    let d = any_to (λ i. rider_broken w.stops.count w.cars.count (rider_at w.riders.items i)) w.riders.count in
+    let e = calls_unloaded w.stops.count w.up_calls in
+    let f = calls_unloaded w.stops.count w.down_calls in
     let abc = or_left (a || b || c) d (or_left (a || b || c || d) e (or_left (a || b || c || d || e) f h)) in
     let k : Counts w = counts_fit w (or_left a b (or_left (a || b) c abc)) in
     let cars = or_right (a || b) c abc in
     record {
       low = record {
-        cars = λ i l. count_low w.line_count w.stop_count (car_at w.cars i)
-            (none_to (λ j. car_broken w.line_count w.stop_count (car_at w.cars j)) w.car_count cars i (omega arith));
+        cars = λ i l. count_low w.lines.count w.stops.count (car_at w.cars.items i)
+            (none_to (λ j. car_broken w.lines.count w.stops.count (car_at w.cars.items j)) w.cars.count cars i (omega arith));
         total = k.moves;
         ticks = omega (arith, k.ticks);
       };

@@ -65,10 +65,10 @@ use Rattle.certificate.proofs.Reading.{Says, Reads, Brings, decoded_reads, Unbro
 -- ---- what a record that is no tick leaves
 
 abbrev pub Sums : World → List ℕ → Type 0
-Sums w j = Summed w.cars w.car_count w.total_moves j
+Sums w j = Summed w.cars w.total_moves j
 
 abbrev pub Holds : ℕ → World → List ℕ → Type 0
-Holds n w j = Held n w.cars w.car_count j
+Holds n w j = Held n w.cars j
 
 sum_same : (f g : ℕ → ℕ) (n : ℕ) → ((i : ℕ) → i < n → f i ≡ g i) → sum_to f n ≡ sum_to g n
 unfolding sum_to
@@ -133,7 +133,7 @@ Keeps w c j v ws = Sums v (j ++ ws) × ((n : ℕ) → Holds n w j → puts_in_ma
 
 -- a car of w that holds what it should, and whose door is not closed, stands in the world v
 abbrev Stands : World → List ℕ → World → Type 0
-Stands w j v = (n : ℕ) → Holds n w j → is_closed (car_at w.cars n).door ≡ false → position_of v n ≡ position_of w n
+Stands w j v = (n : ℕ) → Holds n w j → is_closed (car_at w.cars.items n).door ≡ false → position_of v n ≡ position_of w n
 
 -- what the call leaves, its words joined
 pub record Kept (w : World) (c : Call) (j : List ℕ) : Type 0 where
@@ -198,26 +198,26 @@ module _ (w : World) (c : Call) (j : List ℕ) (h : Sums w j) (used : ℕ) where
       → Gives w c j (changed c.log used (load_car w number plan))
   unfolding load_car
   car_kept number plan t =
-      plain (Loads.car_checks w number plan) (with_cars w (set w.cars number (new_car plan)) (number + 1)) t
-      (λ q e. new (eqb-true number w.car_count (not-false (eqb number w.car_count) (or_right (leb 16 number) (not (eqb number w.car_count)) q.1.0)))
-      (leb-false 16 number (or_left (leb 16 number) (not (eqb number w.car_count)) q.1.0)))
+      plain (Loads.car_checks w number plan) (with_cars w (set w.cars.items number (new_car plan)) (number + 1)) t
+      (λ q e. new (eqb-true number w.cars.count (not-false (eqb number w.cars.count) (or_right (leb 16 number) (not (eqb number w.cars.count)) q.1.0)))
+      (leb-false 16 number (or_left (leb 16 number) (not (eqb number w.cars.count)) q.1.0)))
     where
-      new : number ≡ w.car_count → number < 16 → Quiet (with_cars w (set w.cars number (new_car plan)) (number + 1))
+      new : number ≡ w.cars.count → number < 16 → Quiet (with_cars w (set w.cars.items number (new_car plan)) (number + 1))
       new q l =
-          let inside : w.car_count < length w.cars = omega (arith, q, l, h.full) in
+          let inside : w.cars.count < length w.cars.items = omega (arith, q, l, h.full) in
           rw q (sum_new (new_car plan) h inside refl, λ n k p. held_new (new_car plan) k inside (record { sound = idle; tame = refl }))
 
   -- an order: the car that it leaves is fit where the car before was
   order : (cs : List Check) (car : ℕ) (d : Car) → eqb (kind_of (head_word c)) 12 ≡ false → (Passed cs → Changes.no_such_car w car ≡ false)
       → ((n : ℕ) → Passed cs → outcome w c ≡ accepted used 0 (with_car w car d) c.log → puts_in_manual w c n ≡ false → n ≡ car
-      → Fit (car_at w.cars car) (open_after car false j) → Fit d (open_after car false j))
-      → d.move_count ≡ (car_at w.cars car).move_count
+      → Fit (car_at w.cars.items car) (open_after car false j) → Fit d (open_after car false j))
+      → d.move_count ≡ (car_at w.cars.items car).move_count
       → Gives w c j (changed c.log used (unless cs (Changes.refused w) (Changes.accepted (with_car w car d))))
   order cs car d t known f m =
       plain cs (with_car w car d) t
-      (λ q e. let low : car < 16 = leb-false 16 car (or_left (leb 16 car) (unloaded w.car_count car) (known q)) in
-      let loaded : car < w.car_count = leb-false w.car_count car (or_right (leb 16 car) (unloaded w.car_count car) (known q)) in
-      let inside : car < length w.cars = omega (arith, low, h.full) in
+      (λ q e. let low : car < 16 = leb-false 16 car (or_left (leb 16 car) (unloaded w.cars.count car) (known q)) in
+      let loaded : car < w.cars.count = leb-false w.cars.count car (or_right (leb 16 car) (unloaded w.cars.count car) (known q)) in
+      let inside : car < length w.cars.items = omega (arith, low, h.full) in
       (sum_orders car d h inside m, λ n k p. held_orders car d k inside loaded (f n q e p)))
 
 -- a record that was read
@@ -230,9 +230,9 @@ module _ (w : World) (c : Call) (j : List ℕ) (h : Sums w j) (used : ℕ) (serv
   changed_kept (Record.Car number plan) t s = car_kept w c j h used number plan t
   changed_kept (Record.Rider number rider) t s = plain w c j h used (Loads.rider_checks w number rider) _ t (λ q e. (h, λ n k p. k))
   changed_kept (Record.Send car stop reposition) t s =
-      let mine : Car = car_at w.cars car in
+      let mine : Car = car_at w.cars.items car in
       order w c j h used (Orders.send_checks w car stop) car (Orders.sent mine stop reposition) t
-      (λ q. or_left (Changes.no_such_car w car) (unloaded w.stop_count stop) q.1.0)
+      (λ q. or_left (Changes.no_such_car w car) (unloaded w.stops.count stop) q.1.0)
       (λ n q e p i f. record {
         sound = send_sound stop reposition mine.phase mine.door (open_after car false j) f.sound
             (not-false (Orders.can_go mine.phase) (or_right (not mine.enabled) (not (Orders.can_go mine.phase)) q.1.1.0));
@@ -240,20 +240,20 @@ module _ (w : World) (c : Call) (j : List ℕ) (h : Sums w j) (used : ℕ) (serv
       })
       refl
   changed_kept (Record.Mode car mode) t s =
-      order w c j h used (Modes.order_checks w car) car (Modes.in_mode (car_at w.cars car) mode) t (λ q. q.1.0)
+      order w c j h used (Modes.order_checks w car) car (Modes.in_mode (car_at w.cars.items car) mode) t (λ q. q.1.0)
       (λ n q e p i f. record { sound = f.sound; tame = s (rw (e, i) at p) }) refl
   changed_kept (Record.ManualSpeed car speed) t s =
-      order w c j h used (Modes.order_checks w car) car (Modes.at_speed (car_at w.cars car) speed) t (λ q. q.1.0)
+      order w c j h used (Modes.order_checks w car) car (Modes.at_speed (car_at w.cars.items car) speed) t (λ q. q.1.0)
       (λ n q e p i f. record { sound = f.sound; tame = f.tame }) refl
   changed_kept (Record.DoorCommand car command) t s =
-      order w c j h used (Requests.command_checks w car) car (Requests.commanded (car_at w.cars car) command) t (λ q. q.1.0)
+      order w c j h used (Requests.command_checks w car) car (Requests.commanded (car_at w.cars.items car) command) t (λ q. q.1.0)
       (λ n q e p i f. record { sound = f.sound; tame = f.tame }) refl
   changed_kept (Record.HallCall stop down) t s = plain w c j h used (Requests.call_checks w stop) _ t (λ q e. (h, λ n k p. k))
   changed_kept (Record.Destination car stop) t s =
-      order w c j h used (Requests.destination_checks w car stop) car (Requests.destined (car_at w.cars car) stop) t
-      (λ q. or_left (Changes.no_such_car w car) (unloaded w.stop_count stop) q.1.0) (λ n q e p i f. record { sound = f.sound; tame = f.tame }) refl
+      order w c j h used (Requests.destination_checks w car stop) car (Requests.destined (car_at w.cars.items car) stop) t
+      (λ q. or_left (Changes.no_such_car w car) (unloaded w.stops.count stop) q.1.0) (λ n q e p i f. record { sound = f.sound; tame = f.tame }) refl
   changed_kept (Record.Enable car enabled) t s =
-      order w c j h used (Modes.order_checks w car) car (Modes.marked (car_at w.cars car) enabled) t (λ q. q.1.0)
+      order w c j h used (Modes.order_checks w car) car (Modes.marked (car_at w.cars.items car) enabled) t (λ q. q.1.0)
       (λ n q e p i f. record { sound = f.sound; tame = f.tame }) refl
   changed_kept Record.Start t s = plain w c j h used (Changes.start_checks w) _ t (λ q e. (h, λ n k p. k))
 

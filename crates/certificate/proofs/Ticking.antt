@@ -40,7 +40,7 @@ Rests c d = is_closed c.door ≡ false → d ≡ c
 rests_then : (a b c : Car) → Rests a b → Rests b c → Rests a c
 rests_then a b c p q h = q (rw (p h) h) ∙ p h
 
-moved_ran : (n : ℕ) (w : World) (dt : Float) (log : List ℕ) → length w.cars ≡ 16 → Held n w.cars w.car_count log → Ran Rests n w log (moved w dt)
+moved_ran : (n : ℕ) (w : World) (dt : Float) (log : List ℕ) → length w.cars.items ≡ 16 → Held n w.cars log → Ran Rests n w log (moved w dt)
 unfolding moved
 moved_ran n w dt log =
     run_ran (move_of dt) Rests (λ c e. refl) rests_then (λ v i o l f. move_good v i o l f dt) (λ v i o l f. move_rests v i o l f dt) (move_silent dt) n w log
@@ -49,7 +49,7 @@ moved_ran n w dt log =
 abbrev Stands : Car → Car → Type 0
 Stands c d = d.motion ≡ c.motion
 
-doored_ran : (n : ℕ) (w : World) (log : List ℕ) → length w.cars ≡ 16 → Held n w.cars w.car_count log → Ran Stands n w log (doored w)
+doored_ran : (n : ℕ) (w : World) (log : List ℕ) → length w.cars.items ≡ 16 → Held n w.cars log → Ran Stands n w log (doored w)
 unfolding doored
 doored_ran n w log = run_ran door_of Stands (λ c. refl) (λ a b c p q. q ∙ p) door_good (λ v i o l f. door_stands v i) door_silent n w log
 
@@ -72,35 +72,35 @@ module _ (i : ℕ) (o : Bool) where
 -- ---- a tick
 
 -- it changes neither the table's size nor how many cars there are
-moved_full : (w : World) (dt : Float) → length (moved w dt).world.cars ≡ length w.cars
+moved_full : (w : World) (dt : Float) → length (moved w dt).world.cars.items ≡ length w.cars.items
 unfolding moved
 moved_full w dt = run_full (move_of dt) w
 
-moved_count : (w : World) (dt : Float) → (moved w dt).world.car_count ≡ w.car_count
+moved_count : (w : World) (dt : Float) → (moved w dt).world.cars.count ≡ w.cars.count
 unfolding moved
 moved_count w dt = run_count (move_of dt) w
 
-doored_count : (w : World) → (doored w).world.car_count ≡ w.car_count
+doored_count : (w : World) → (doored w).world.cars.count ≡ w.cars.count
 unfolding doored
 doored_count w = run_count door_of w
 
-tick_full : (w : World) (dt : Float) → length (tick_world w dt).cars ≡ length w.cars
+tick_full : (w : World) (dt : Float) → length (tick_world w dt).cars.items ≡ length w.cars.items
 unfolding tick_world doors_world doored
 tick_full w dt = run_full door_of (moved w dt).world ∙ moved_full w dt
 
-tick_count : (w : World) (dt : Float) → (tick_world w dt).car_count ≡ w.car_count
+tick_count : (w : World) (dt : Float) → (tick_world w dt).cars.count ≡ w.cars.count
 unfolding tick_world doors_world
 tick_count w dt = doored_count (moved w dt).world ∙ moved_count w dt
 
 -- car n
 pub record Ticks (n : ℕ) (w : World) (dt : Float) (log : List ℕ) : Type 0 where
-  pub held : Held n (tick_world w dt).cars (tick_world w dt).car_count (log ++ tick_words w dt)
-  pub stands : is_closed (car_at w.cars n).door ≡ false → position_of (tick_world w dt) n ≡ position_of w n
+  pub held : Held n (tick_world w dt).cars.items (tick_world w dt).cars.count (log ++ tick_words w dt)
+  pub stands : is_closed (car_at w.cars.items n).door ≡ false → position_of (tick_world w dt) n ≡ position_of w n
 
 regroup : (l : List ℕ) (x : ℕ) (a b c : List ℕ) → l ++ (x ∷ (a ++ (b ++ c))) ≡ l ++ (x ∷ []) ++ a ++ b ++ c
 regroup l x a b c = simp append_assoc
 
-pub tick_ticks : (n : ℕ) (w : World) (dt : Float) (log : List ℕ) → length w.cars ≡ 16 → Held n w.cars w.car_count log → Ticks n w dt log
+pub tick_ticks : (n : ℕ) (w : World) (dt : Float) (log : List ℕ) → length w.cars.items ≡ 16 → Held n w.cars log → Ticks n w dt log
 unfolding tick_world tick_words doors_world doors_words
 tick_ticks n w dt log full h = record {
   held = rw (doored_count v, regroup log (word_of (TickMade w.ticks)) (moved w dt).words (doored v).words (clear_words_to os (standing v) (cars_of v)))
@@ -127,8 +127,8 @@ tick_ticks n w dt log full h = record {
 all_cars : (n : ℕ) → n ≤ 16 → min n 16 ≡ n
 all_cars n h = omega arith
 
-pub tick_sums : (w : World) (dt : Float) (log : List ℕ) → w.car_count ≤ 16 → Low w → Summed w.cars w.car_count w.total_moves log
-    → Summed (tick_world w dt).cars (tick_world w dt).car_count (tick_world w dt).total_moves (log ++ tick_words w dt)
+pub tick_sums : (w : World) (dt : Float) (log : List ℕ) → w.cars.count ≤ 16 → Low w → Summed w.cars w.total_moves log
+    → Summed (tick_world w dt).cars.items (tick_world w dt).cars.count (tick_world w dt).total_moves (log ++ tick_words w dt)
 unfolding NothingWraps
 tick_sums w dt log few low s = record {
   full = tick_full w dt ∙ s.full;
@@ -139,5 +139,5 @@ tick_sums w dt log few low s = record {
     k : Counts w dt
     k = nothing_wraps.1 w dt low
 
-    sums : sum_to (count_of (tick_world w dt)) w.car_count ≡ sum_to (count_of w) w.car_count + moves_in (tick_words w dt)
-    sums = rw (all_cars w.car_count few) at k.sum
+    sums : sum_to (count_of (tick_world w dt)) w.cars.count ≡ sum_to (count_of w) w.cars.count + moves_in (tick_words w dt)
+    sums = rw (all_cars w.cars.count few) at k.sum

@@ -78,10 +78,10 @@ passing_told {n} {o} i b up [] = told_none n o
 passing_told {n} {o} i b up (s ∷ ss) = told_join (b 1 s (bit up) refl refl) (passing_told i b up ss)
 
 -- the words of car i's turn, where those of a trip say nothing of car n
-move_told : (n : ℕ) (o : Bool) (w : World) (i : ℕ) → (is_trip (trip_of (car_at w.cars i)) ≡ true → Bears n o i) → (dt : Float)
+move_told : (n : ℕ) (o : Bool) (w : World) (i : ℕ) → (is_trip (trip_of (car_at w.cars.items i)) ≡ true → Bears n o i) → (dt : Float)
     → Told n o o (move_of dt w i).words
 move_told n o w i b =
-    let c : Car = car_at w.cars i in
+    let c : Car = car_at w.cars.items i in
     move_cases (λ s. Told n o o s.words) w i (told_none n o)
     (λ e trip kind r. passing_told i (b e) (moving_up kind c.motion.position r.position) _)
     (λ e s kind r lamps. told_join (b e 2 s 0 refl refl) (lamps_told n o i (lamps_of c) lamps))
@@ -110,9 +110,9 @@ shut c o f =
     (rw f.tame (shut_by c.phase c.door o f.sound))
     (λ h. no h)
 
-module _ (w : World) (i : ℕ) (o : Bool) (low : i < 16) (f : Fit (car_at w.cars i) o) where
+module _ (w : World) (i : ℕ) (o : Bool) (low : i < 16) (f : Fit (car_at w.cars.items i) o) where
   abbrev c : Car
-  c = car_at w.cars i
+  c = car_at w.cars.items i
 
   -- its own moves stand where its door is closed
   own_bears : is_trip (trip_of c) ≡ true → Bears i o i
@@ -205,13 +205,13 @@ unfolding command_words
 door_turn_lem i low c at traversing next o f =
     let k : Work = process_door_commands c at traversing in
     both (λ (t : Turn). Good i o t.car t.words) c.enabled
-    (after_good (words_told i o c at traversing i (min c.command_count 8))
+    (after_good (words_told i o c at traversing i (min c.door_command_queue.count 8))
     (door_by_lem i low c f.tame k next k.phase k.door o (commands_sound c at traversing o f.sound)))
     (still i o c f)
 
-pub door_good : (w : World) (i : ℕ) (o : Bool) → i < 16 → Fit (car_at w.cars i) o → Good i o (door_of w i).car (door_of w i).words
+pub door_good : (w : World) (i : ℕ) (o : Bool) → i < 16 → Fit (car_at w.cars.items i) o → Good i o (door_of w i).car (door_of w i).words
 unfolding door_of
-door_good w i o low f = door_turn_lem i low (car_at w.cars i) _ _ _ o f
+door_good w i o low f = door_turn_lem i low (car_at w.cars.items i) _ _ _ o f
 
 -- the words of a car's turn say nothing of another
 turn_silent : (i n : ℕ) → i < 16 → (n ≡ i → ⊥) → (c : Car) (at traversing : Bool) (next : Option ℕ) → Silent n (door_turn i c at traversing next).words
@@ -221,14 +221,14 @@ turn_silent i n low other c at traversing next o =
     let Says : Turn → Type 0 = λ t. Told n o o t.words in
     let none : (d : DoorState) → Told n o o [] = λ d. told_none n o in
     both Says c.enabled
-    (told_join (words_told n o c at traversing i (min c.command_count 8))
+    (told_join (words_told n o c at traversing i (min c.door_command_queue.count 8))
     (door_cases Says i c k next none (λ d. told_other n i low other 6 0 0 o) none (λ d. closed_told i c k None d (told_other n i low other 7 0 0 o))
     (λ s d e. closed_told i c k (Some s) d (told_other n i low other 7 0 0 o))))
     (told_none n o)
 
 pub door_silent : (w : World) (i n : ℕ) → i < 16 → (n ≡ i → ⊥) → Silent n (door_of w i).words
 unfolding door_of
-door_silent w i n low other = turn_silent i n low other (car_at w.cars i) _ _ _
+door_silent w i n low other = turn_silent i n low other (car_at w.cars.items i) _ _ _
 
 -- no turn of the doors moves a car
 turn_stands : (i : ℕ) (c : Car) (at traversing : Bool) (next : Option ℕ) → (door_turn i c at traversing next).car.motion ≡ c.motion
@@ -237,6 +237,6 @@ turn_stands i c at traversing next =
     both Stands c.enabled
     (door_cases Stands i c (process_door_commands c at traversing) next (λ d. refl) (λ d. refl) (λ d. refl) (λ d. refl) (λ s d e. refl)) refl
 
-pub door_stands : (w : World) (i : ℕ) → (door_of w i).car.motion ≡ (car_at w.cars i).motion
+pub door_stands : (w : World) (i : ℕ) → (door_of w i).car.motion ≡ (car_at w.cars.items i).motion
 unfolding door_of
-door_stands w i = turn_stands i (car_at w.cars i) _ _ _
+door_stands w i = turn_stands i (car_at w.cars.items i) _ _ _

@@ -21,7 +21,7 @@ NeverManual w (c ∷ cs) n = (puts_in_manual w c n ≡ false) × NeverManual (ne
 unfoldable pub DoorHolds : World → List Call → ℕ → Type 0
 DoorHolds w [] n = Unit {0}
 DoorHolds w (c ∷ cs) n =
-    (is_tick w c ≡ true → n < w.car_count → is_closed (car_at w.cars n).door ≡ false
+    (is_tick w c ≡ true → n < w.cars.count → is_closed (car_at w.cars.items n).door ≡ false
     → position_of (next w c) n ≡ position_of w n)
     × DoorHolds (next w c) cs n
 

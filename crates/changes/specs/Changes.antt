@@ -21,14 +21,14 @@ not_next size count number = leb size number || not (eqb number count)
 
 -- 8: a car that is not loaded; past the table's end there is none
 abbrev pub no_such_car : World → ℕ → Bool
-no_such_car w car = leb 16 car || unloaded w.car_count car
+no_such_car w car = leb 16 car || unloaded w.cars.count car
 
 -- D start
 abbrev pub start_checks : World → List Check
 start_checks w = check NotNow w.started ∷ []
 
 abbrev pub with_start : World → World
-with_start w = with_plan w w.stops w.stop_count w.lines w.line_count true
+with_start w = with_plan w w.stops w.lines true
 
 unfoldable pub start : World → Changed
 start w = unless (start_checks w) (refused w) (accepted (with_start w))

@@ -12,7 +12,7 @@ use Rattle.changes.specs.Changes.{refused, accepted, no_such_car}
 
 -- a car's row; past the table, that of car 0
 unfoldable pub row_of : World → ℕ → Car
-row_of w car = car_at w.cars (cond (ltb car 16) car 0)
+row_of w car = car_at w.cars.items (cond (ltb car 16) car 0)
 
 -- the first checks of an order, which may name a stop too, and what follows
 abbrev pub named : World → ℕ → Bool → Changed → Changed

@@ -43,7 +43,7 @@ pub fn row_of(world: World, car: u8) -> Car
     ensures { result ≡ row_of world car }
 {
     let at = if car < 16 { car as usize } else { 0 };
-    world.cars[at]
+    world.cars.items[at]
 }
 
 // What every order to a car comes to: refused before the start, where the car or what else it names is not loaded, and where something hinders it; else
@@ -57,14 +57,14 @@ pub fn ordered(world: World, car: u8, unnamed: bool, hindered: Option<Refusal>, 
         return refused(world, Refusal::NotNow);
     }
     let at = car as usize;
-    if (16 <= at) | unloaded(world.car_count, car) | unnamed {
+    if (16 <= at) | unloaded(world.cars.count, car) | unnamed {
         return refused(world, Refusal::NotLoaded);
     }
     match hindered {
         Some(refusal) => refused(world, refusal),
         None => {
             let mut next = world;
-            next.cars[at] = row;
+            next.cars.items[at] = row;
             accepted(next)
         }
     }

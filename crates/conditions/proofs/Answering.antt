@@ -183,20 +183,20 @@ module _ (w : World) (words lent : List ℕ) where
       let row = line_row kind listed count serves in some_fine (λ g. (g.0, g.1)) (fine_changed used (line_checks w number row) (with_line w number row))
   fine_taken used serves (Stop number position) = some_fine (λ g. (g.0, g.1)) (fine_changed used (stop_checks w number) (with_stop w number position))
   fine_taken used serves (Car number plan) =
-      some_fine (λ g. (g.0, g.1)) (fine_changed used (car_checks w number plan) (with_cars w (set w.cars number (new_car plan)) (number + 1)))
+      some_fine (λ g. (g.0, g.1)) (fine_changed used (car_checks w number plan) (with_cars w (set w.cars.items number (new_car plan)) (number + 1)))
   fine_taken used serves (Rider number rider) = some_fine (λ g. (g.0, g.1)) (fine_changed used (rider_checks w number rider) (with_rider w number rider))
   fine_taken used serves (Send car stop reposition) =
-      some_fine (λ g. (g.0, g.1)) (fine_changed used (send_checks w car stop) (with_car w car (sent (car_at w.cars car) stop reposition)))
-  fine_taken used serves (Mode car mode) = some_fine (λ g. (g.0, g.1)) (fine_changed used (order_checks w car) (with_car w car (in_mode (car_at w.cars car) mode)))
+      some_fine (λ g. (g.0, g.1)) (fine_changed used (send_checks w car stop) (with_car w car (sent (car_at w.cars.items car) stop reposition)))
+  fine_taken used serves (Mode car mode) = some_fine (λ g. (g.0, g.1)) (fine_changed used (order_checks w car) (with_car w car (in_mode (car_at w.cars.items car) mode)))
   fine_taken used serves (ManualSpeed car speed) =
-      some_fine (λ g. (g.0, g.1)) (fine_changed used (order_checks w car) (with_car w car (at_speed (car_at w.cars car) speed)))
+      some_fine (λ g. (g.0, g.1)) (fine_changed used (order_checks w car) (with_car w car (at_speed (car_at w.cars.items car) speed)))
   fine_taken used serves (DoorCommand car command) =
-      some_fine (λ g. (g.0, g.1)) (fine_changed used (command_checks w car) (with_car w car (commanded (car_at w.cars car) command)))
+      some_fine (λ g. (g.0, g.1)) (fine_changed used (command_checks w car) (with_car w car (commanded (car_at w.cars.items car) command)))
   fine_taken used serves (HallCall stop down) = some_fine (λ g. (g.0, g.1)) (fine_changed used (call_checks w stop) (with_call w stop down))
   fine_taken used serves (Destination car stop) =
-      some_fine (λ g. (g.0, g.1)) (fine_changed used (destination_checks w car stop) (with_car w car (destined (car_at w.cars car) stop)))
+      some_fine (λ g. (g.0, g.1)) (fine_changed used (destination_checks w car stop) (with_car w car (destined (car_at w.cars.items car) stop)))
   fine_taken used serves (Enable car enabled) =
-      some_fine (λ g. (g.0, g.1)) (fine_changed used (order_checks w car) (with_car w car (marked (car_at w.cars car) enabled)))
+      some_fine (λ g. (g.0, g.1)) (fine_changed used (order_checks w car) (with_car w car (marked (car_at w.cars.items car) enabled)))
   fine_taken used serves Start = some_fine (λ g. (g.0, g.1)) (fine_changed used (start_checks w) (with_start w))
 
   fine_read : (serves : List ℕ) (read : Read) → Fine (behind w lent serves read) (ReadInBounds words read) (made_of w lent serves read)

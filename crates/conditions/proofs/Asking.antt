@@ -270,10 +270,10 @@ float_of_tick words K x = dt_outside K x
 abbrev pub NextAsks : World → List ℕ → ℕ → Type 0
 NextAsks w words k =
     pick k
-    (row 1 ((w.line_count < n words) ⊎ (n words < w.line_count))
-    ∷ row 2 ((w.stop_count < s words) ⊎ (s words < w.stop_count))
-    ∷ row 3 ((w.car_count < n words) ⊎ (n words < w.car_count))
-    ∷ row 4 (w.rider_count < s words)
+    (row 1 ((w.lines.count < n words) ⊎ (n words < w.lines.count))
+    ∷ row 2 ((w.stops.count < s words) ⊎ (s words < w.stops.count))
+    ∷ row 3 ((w.cars.count < n words) ⊎ (n words < w.cars.count))
+    ∷ row 4 (w.riders.count < s words)
     ∷ [])
 
 pub next_asks : (w : World) (words : List ℕ) {k : ℕ} → kind words ≡ k → NotNext w words → NextAsks w words k
@@ -305,16 +305,16 @@ next_of_rider w words K x = rider_above K x
 abbrev pub LoadedAsks : World → List ℕ → ℕ → Type 0
 LoadedAsks w words k =
     pick k
-    (row 1 (AnyBelow (served words) (λ i. w.stop_count ≤ get_or words (5 + i) 0))
-    ∷ row 3 (w.line_count ≤ s words)
-    ∷ row 4 ((((v words ≡ 65535 → ⊥) × (w.stop_count ≤ v words)) ⊎ ((1 ≤ phase_of words) × (phase_of words ≤ 3) × (w.car_count ≤ phase_car_of words))) ⊎ ((aboard_of words ≡ 255 → ⊥) × (w.car_count ≤ aboard_of words)))
-    ∷ row 5 ((w.car_count ≤ n words) ⊎ (w.stop_count ≤ s words))
-    ∷ row 6 (w.car_count ≤ n words)
-    ∷ row 7 (w.car_count ≤ n words)
-    ∷ row 8 (w.car_count ≤ n words)
-    ∷ row 9 (w.stop_count ≤ s words)
-    ∷ row 10 ((w.car_count ≤ n words) ⊎ (w.stop_count ≤ s words))
-    ∷ row 11 (w.car_count ≤ n words)
+    (row 1 (AnyBelow (served words) (λ i. w.stops.count ≤ get_or words (5 + i) 0))
+    ∷ row 3 (w.lines.count ≤ s words)
+    ∷ row 4 ((((v words ≡ 65535 → ⊥) × (w.stops.count ≤ v words)) ⊎ ((1 ≤ phase_of words) × (phase_of words ≤ 3) × (w.cars.count ≤ phase_car_of words))) ⊎ ((aboard_of words ≡ 255 → ⊥) × (w.cars.count ≤ aboard_of words)))
+    ∷ row 5 ((w.cars.count ≤ n words) ⊎ (w.stops.count ≤ s words))
+    ∷ row 6 (w.cars.count ≤ n words)
+    ∷ row 7 (w.cars.count ≤ n words)
+    ∷ row 8 (w.cars.count ≤ n words)
+    ∷ row 9 (w.stops.count ≤ s words)
+    ∷ row 10 ((w.cars.count ≤ n words) ⊎ (w.stops.count ≤ s words))
+    ∷ row 11 (w.cars.count ≤ n words)
     ∷ [])
 
 pub loaded_asks : (w : World) (words : List ℕ) {k : ℕ} → kind words ≡ k → NotLoaded w words → LoadedAsks w words k
@@ -374,7 +374,7 @@ loaded_of_enable w words K x = car_named (inr (inr (inr (inr (inr (inl K)))))) x
 abbrev pub GoAsks : World → List ℕ → ℕ → Type 0
 GoAsks w words k =
     pick k
-    (row 5 (((car_at w.cars (n words)).enabled ≡ false) ⊎ (((car_at w.cars (n words)).phase ≡ Idle → ⊥) × ((car_at w.cars (n words)).phase ≡ Stopped → ⊥)))
+    (row 5 (((car_at w.cars.items (n words)).enabled ≡ false) ⊎ (((car_at w.cars.items (n words)).phase ≡ Idle → ⊥) × ((car_at w.cars.items (n words)).phase ≡ Stopped → ⊥)))
     ∷ [])
 
 pub go_asks : (w : World) (words : List ℕ) {k : ℕ} → kind words ≡ k → CannotGo w words → GoAsks w words k
@@ -390,8 +390,8 @@ go_of_send w words K (inr x) = car_busy K x.0 x.1
 abbrev pub QueueAsks : World → List ℕ → ℕ → Type 0
 QueueAsks w words k =
     pick k
-    (row 8 ((car_at w.cars (n words)).command_count ≡ 8)
-    ∷ row 10 ((car_at w.cars (n words)).destination_count ≡ 8)
+    (row 8 ((car_at w.cars.items (n words)).door_command_queue.count ≡ 8)
+    ∷ row 10 ((car_at w.cars.items (n words)).destination_queue.count ≡ 8)
     ∷ [])
 
 pub queue_asks : (w : World) (words : List ℕ) {k : ℕ} → kind words ≡ k → QueueFull w words → QueueAsks w words k
@@ -423,7 +423,7 @@ last_of_tick w words K x = last_made K x
 abbrev pub LogAsks : World → List ℕ → List ℕ → ℕ → Type 0
 LogAsks w words log k =
     pick k
-    (row 12 (length log < w.car_count * (w.stop_count + 14) + 1)
+    (row 12 (length log < w.cars.count * (w.stops.count + 14) + 1)
     ∷ [])
 
 pub log_asks : (w : World) (words log : List ℕ) {k : ℕ} → kind words ≡ k → LogShort w words log → LogAsks w words log k

@@ -192,16 +192,16 @@ line_decided stops l = less 64 l.serves_count or any (λ i. most stops (get_or l
 
 abbrev InCar : ℕ → ℕ → Car → Type 0
 InCar lines stops c =
-    ((((((8 < c.destination_count) ⊎ (8 < c.command_count)) ⊎ (2 ^ 48 ≤ c.move_count)) ⊎ (lines ≤ c.line)) ⊎ Held stops (InPhase c.phase))
+    ((((((8 < c.destination_queue.count) ⊎ (8 < c.door_command_queue.count)) ⊎ (2 ^ 48 ≤ c.move_count)) ⊎ (lines ≤ c.line)) ⊎ Held stops (InPhase c.phase))
     ⊎ Held stops (λ stop. c.target_stop ≡ Some stop))
-    ⊎ AnyBelow c.destination_count (λ i. stops ≤ get_or c.destination_queue i 0)
+    ⊎ AnyBelow c.destination_queue.count (λ i. stops ≤ get_or c.destination_queue.items i 0)
 
 car_row_decided : (lines stops : ℕ) (c : Car) → Decides (InCar lines stops c) (car_broken lines stops c)
 unfolding car_broken
 car_row_decided lines stops c =
-    less 8 c.destination_count or less 8 c.command_count or most (2 ^ 48) c.move_count or most lines c.line or phase_decided stops c.phase
+    less 8 c.destination_queue.count or less 8 c.door_command_queue.count or most (2 ^ 48) c.move_count or most lines c.line or phase_decided stops c.phase
     or stop_decided stops c.target_stop
-    or any (λ i. most stops (get_or c.destination_queue i 0)) c.destination_count
+    or any (λ i. most stops (get_or c.destination_queue.items i 0)) c.destination_queue.count
 
 abbrev InRow : ℕ → ℕ → Rider → Type 0
 InRow stops cars r =
@@ -215,20 +215,20 @@ rider_decided stops cars r = stop_decided stops r.destination or rider_phase_dec
 
 module _ (w : World) where
   abbrev AnyLine : Type 0
-  AnyLine = AnyBelow w.line_count (λ i. InLine w.stop_count (line_at w.lines i))
+  AnyLine = AnyBelow w.lines.count (λ i. InLine w.stops.count (line_at w.lines.items i))
 
   abbrev AnyCar : Type 0
-  AnyCar = AnyBelow w.car_count (λ i. InCar w.line_count w.stop_count (car_at w.cars i))
+  AnyCar = AnyBelow w.cars.count (λ i. InCar w.lines.count w.stops.count (car_at w.cars.items i))
 
   abbrev AnyRider : Type 0
-  AnyRider = AnyBelow w.rider_count (λ i. InRow w.stop_count w.car_count (rider_at w.riders i))
+  AnyRider = AnyBelow w.riders.count (λ i. InRow w.stops.count w.cars.count (rider_at w.riders.items i))
 
   abbrev AnyCall : ℕ → Type 0
-  AnyCall calls = (stop : ℕ) × (w.stop_count ≤ stop) × (called calls stop ≡ true)
+  AnyCall calls = (stop : ℕ) × (w.stops.count ≤ stop) × (called calls stop ≡ true)
 
   abbrev Counted : Type 0
   Counted =
-      (((((64 < w.stop_count) ⊎ (8 < w.line_count)) ⊎ (16 < w.car_count)) ⊎ (128 < w.rider_count)) ⊎ (268435456 < w.ticks))
+      (((((64 < w.stops.count) ⊎ (8 < w.lines.count)) ⊎ (16 < w.cars.count)) ⊎ (128 < w.riders.count)) ⊎ (268435456 < w.ticks))
       ⊎ (2 ^ 48 ≤ w.total_moves)
 
   abbrev Parts : Type 0
@@ -237,18 +237,18 @@ module _ (w : World) where
   counts_decided : Decides Counted (counts_broken w)
   unfolding counts_broken
   counts_decided =
-      less 64 w.stop_count or less 8 w.line_count or less 16 w.car_count or less 128 w.rider_count or less (2 ^ 28) w.ticks
+      less 64 w.stops.count or less 8 w.lines.count or less 16 w.cars.count or less 128 w.riders.count or less (2 ^ 28) w.ticks
       or most (2 ^ 48) w.total_moves
 
   parts_decided : Decides Parts (broken w)
   unfolding broken
   parts_decided =
       counts_decided
-      or any (λ i. line_decided w.stop_count (line_at w.lines i)) w.line_count
-      or any (λ i. car_row_decided w.line_count w.stop_count (car_at w.cars i)) w.car_count
-      or any (λ i. rider_decided w.stop_count w.car_count (rider_at w.riders i)) w.rider_count
-      or calls_decided w.stop_count w.up_calls
-      or calls_decided w.stop_count w.down_calls
+      or any (λ i. line_decided w.stops.count (line_at w.lines.items i)) w.lines.count
+      or any (λ i. car_row_decided w.lines.count w.stops.count (car_at w.cars.items i)) w.cars.count
+      or any (λ i. rider_decided w.stops.count w.cars.count (rider_at w.riders.items i)) w.riders.count
+      or calls_decided w.stops.count w.up_calls
+      or calls_decided w.stops.count w.down_calls
 
   of_counts : Counted → Broken w
   of_counts (inl (inl (inl (inl (inl x))))) = stops_above x
@@ -258,15 +258,15 @@ module _ (w : World) where
   of_counts (inl (inr x)) = ticks_above x
   of_counts (inr x) = total_high x
 
-  of_line : (l : ℕ) → l < w.line_count → InLine w.stop_count (line_at w.lines l) → Broken w
+  of_line : (l : ℕ) → l < w.lines.count → InLine w.stops.count (line_at w.lines.items l) → Broken w
   of_line l h (inl x) = list_above l h x
   of_line l h (inr x) = listed_unloaded l x.0 h x.1 x.2
 
-  of_phase : (c stop : ℕ) → c < w.car_count → InPhase (car_at w.cars c).phase stop → w.stop_count ≤ stop → Broken w
+  of_phase : (c stop : ℕ) → c < w.cars.count → InPhase (car_at w.cars.items c).phase stop → w.stops.count ≤ stop → Broken w
   of_phase c stop h (inl e) x = moving_unloaded c stop h e x
   of_phase c stop h (inr e) x = repositioning_unloaded c stop h e x
 
-  of_car : (c : ℕ) → c < w.car_count → InCar w.line_count w.stop_count (car_at w.cars c) → Broken w
+  of_car : (c : ℕ) → c < w.cars.count → InCar w.lines.count w.stops.count (car_at w.cars.items c) → Broken w
   of_car c h (inl (inl (inl (inl (inl (inl x)))))) = destinations_above c h x
   of_car c h (inl (inl (inl (inl (inl (inr x)))))) = commands_above c h x
   of_car c h (inl (inl (inl (inl (inr x))))) = moves_high c h x
@@ -275,12 +275,12 @@ module _ (w : World) where
   of_car c h (inl (inr x)) = target_unloaded c x.0 h x.1 x.2
   of_car c h (inr x) = queued_unloaded c x.0 h x.1 x.2
 
-  of_rider_phase : (r c : ℕ) → r < w.rider_count → InRider (rider_at w.riders r).phase c → w.car_count ≤ c → Broken w
+  of_rider_phase : (r c : ℕ) → r < w.riders.count → InRider (rider_at w.riders.items r).phase c → w.cars.count ≤ c → Broken w
   of_rider_phase r c h (inl e) x = boarding_unloaded r c h e x
   of_rider_phase r c h (inr (inl e)) x = riding_unloaded r c h e x
   of_rider_phase r c h (inr (inr e)) x = exiting_unloaded r c h e x
 
-  of_rider : (r : ℕ) → r < w.rider_count → InRow w.stop_count w.car_count (rider_at w.riders r) → Broken w
+  of_rider : (r : ℕ) → r < w.riders.count → InRow w.stops.count w.cars.count (rider_at w.riders.items r) → Broken w
   of_rider r h (inl (inl x)) = route_unloaded r x.0 h x.1 x.2
   of_rider r h (inl (inr x)) = of_rider_phase r x.0 h x.1 x.2
   of_rider r h (inr x) = aboard_unloaded r x.0 h x.1 x.2
@@ -297,13 +297,13 @@ module _ (w : World) where
   in_counts : Counted → Parts
   in_counts x = inl (inl (inl (inl (inl x))))
 
-  in_line : (l : ℕ) → l < w.line_count → InLine w.stop_count (line_at w.lines l) → Parts
+  in_line : (l : ℕ) → l < w.lines.count → InLine w.stops.count (line_at w.lines.items l) → Parts
   in_line l h x = inl (inl (inl (inl (inr (l, h, x)))))
 
-  in_car : (c : ℕ) → c < w.car_count → InCar w.line_count w.stop_count (car_at w.cars c) → Parts
+  in_car : (c : ℕ) → c < w.cars.count → InCar w.lines.count w.stops.count (car_at w.cars.items c) → Parts
   in_car c h x = inl (inl (inl (inr (c, h, x))))
 
-  in_rider : (r : ℕ) → r < w.rider_count → InRow w.stop_count w.car_count (rider_at w.riders r) → Parts
+  in_rider : (r : ℕ) → r < w.riders.count → InRow w.stops.count w.cars.count (rider_at w.riders.items r) → Parts
   in_rider r h x = inl (inl (inr (r, h, x)))
 
   to_parts : Broken w → Parts

@@ -261,8 +261,8 @@ module _ (x : Verdict) (w : World) (words log : List ℕ) where
 
   -- what several kinds ask
 
-  no_car_lem : Decides (w.car_count ≤ n words) (no_such_car w (n words))
-  no_car_lem = past 16 (n words) (n_small words) (most w.car_count (n words))
+  no_car_lem : Decides (w.cars.count ≤ n words) (no_such_car w (n words))
+  no_car_lem = past 16 (n words) (n_small words) (most w.cars.count (n words))
 
   unstarted : {k : ℕ} → 5 ≤ k → k ≤ 12 → kind words ≡ k → (NotNow w words → w.started ≡ false) → Decides (NotNow w words) (not w.started)
   unstarted g h K f = through (λ e. order_before (omega arith) (omega arith) e) f (clear w.started)
@@ -296,9 +296,9 @@ module _ (x : Verdict) (w : World) (words log : List ℕ) where
       asked x refl (through (load_after (inl K)) (Ask.now_asks w words K) (flag w.started)) λ n6.
       asked x refl
       (through (Ask.next_of_line w words K) (Ask.next_asks w words K)
-      (past 8 (n words) (not_most 7 (n words) (λ h. n3' (line_number K h))) (other (n words) w.line_count))) λ n7.
+      (past 8 (n words) (not_most 7 (n words) (λ h. n3' (line_number K h))) (other (n words) w.lines.count))) λ n7.
       asked x refl
-      (through (Ask.loaded_of_line w words K) (Ask.loaded_asks w words K) (list_decided w.stop_count words (served words) (line_kind_of head words) (not (eqb (v words) 65535)) (few words (λ h. n3 (Ask.count_of_line words K h))))) λ n8.
+      (through (Ask.loaded_of_line w words K) (Ask.loaded_asks w words K) (list_decided w.stops.count words (served words) (line_kind_of head words) (not (eqb (v words) 65535)) (few words (λ h. n3 (Ask.count_of_line words K h))))) λ n8.
       quiet K (λ e. e) (λ e. e) (λ e. e) (λ e. e)
 
   stop_read : kind words ≡ 2 → Read x (read_in (stop_record head words)) behind_kind
@@ -311,7 +311,7 @@ module _ (x : Verdict) (w : World) (words log : List ℕ) where
       asked x refl (through (load_after (inr (inl K))) (Ask.now_asks w words K) (flag w.started)) λ n6.
       asked x refl
       (through (Ask.next_of_stop w words K) (Ask.next_asks w words K)
-      (past 64 (s words) (not_most 63 (s words) (λ h. n3' (stop_number (inl K) h))) (other (s words) w.stop_count))) λ n7.
+      (past 64 (s words) (not_most 63 (s words) (λ h. n3' (stop_number (inl K) h))) (other (s words) w.stops.count))) λ n7.
       silent x (Ask.loaded_asks w words K) λ n8.
       quiet K (λ e. e) (λ e. e) (λ e. e) (λ e. e)
 
@@ -329,8 +329,8 @@ module _ (x : Verdict) (w : World) (words log : List ℕ) where
       or from_zero ten (float_at words 11) Ranges.ten ten_is)) λ n4.
       asked x refl (through (load_after (inr (inr (inl K)))) (Ask.now_asks w words K) (flag w.started)) λ n6.
       asked x refl
-      (through (Ask.next_of_car w words K) (Ask.next_asks w words K) (past 16 (n words) (n_small words) (other (n words) w.car_count))) λ n7.
-      asked x refl (through (Ask.loaded_of_car w words K) (Ask.loaded_asks w words K) (most w.line_count (s words))) λ n8.
+      (through (Ask.next_of_car w words K) (Ask.next_asks w words K) (past 16 (n words) (n_small words) (other (n words) w.cars.count))) λ n7.
+      asked x refl (through (Ask.loaded_of_car w words K) (Ask.loaded_asks w words K) (most w.lines.count (s words))) λ n8.
       quiet K (λ e. e) (λ e. e) (λ e. e) (λ e. e)
 
   rider_read : kind words ≡ 4 → Read x (read_in (rider_record head words)) behind_kind
@@ -349,12 +349,12 @@ module _ (x : Verdict) (w : World) (words log : List ℕ) where
       silent x (Ask.now_asks w words K) λ n6.
       asked x refl
       (through (Ask.next_of_rider w words K) (Ask.next_asks w words K)
-      (past 128 (s words) (not_most 127 (s words) (λ h. n3' (rider_number K h))) (less w.rider_count (s words)))) λ n7.
+      (past 128 (s words) (not_most 127 (s words) (λ h. n3' (rider_number K h))) (less w.riders.count (s words)))) λ n7.
       asked x refl
       (through (Ask.loaded_of_rider w words K) (Ask.loaded_asks w words K)
-      (stop_option_lem w.stop_count (v words) (λ h. n3' (route_number K h.0 h.1))
-      or phase_option w.car_count (phase_of words) (phase_car_of words)
-      or car_option_lem w.car_count (aboard_of words))) λ n8.
+      (stop_option_lem w.stops.count (v words) (λ h. n3' (route_number K h.0 h.1))
+      or phase_option w.cars.count (phase_of words) (phase_car_of words)
+      or car_option_lem w.cars.count (aboard_of words))) λ n8.
       quiet K (λ e. e) (λ e. e) (λ e. e) (λ e. e)
 
   send_read : kind words ≡ 5 → Read x (read_in (send_record head)) behind_kind
@@ -365,10 +365,10 @@ module _ (x : Verdict) (w : World) (words log : List ℕ) where
       silent x (Ask.float_asks words K) λ n4.
       asked x refl (unstarted (omega arith) (omega arith) K (Ask.now_asks w words K)) λ n6.
       silent x (Ask.next_asks w words K) λ n7.
-      asked x refl (through (Ask.loaded_of_send w words K) (Ask.loaded_asks w words K) (no_car_lem or most w.stop_count (s words))) λ n8.
+      asked x refl (through (Ask.loaded_of_send w words K) (Ask.loaded_asks w words K) (no_car_lem or most w.stops.count (s words))) λ n8.
       asked x refl
       (through (Ask.go_of_send w words K) (Ask.go_asks w words K)
-      (clear (car_at w.cars (n words)).enabled or busy (car_at w.cars (n words)).phase)) λ n9.
+      (clear (car_at w.cars.items (n words)).enabled or busy (car_at w.cars.items (n words)).phase)) λ n9.
       silent x (Ask.queue_asks w words K) λ n10.
       silent x (Ask.last_asks w words K) λ n11.
       silent x (Ask.log_asks w words log K) λ n12.
@@ -410,10 +410,10 @@ module _ (x : Verdict) (w : World) (words log : List ℕ) where
       silent x (Ask.next_asks w words K) λ n7.
       asked x refl (through (Ask.loaded_of_command w words K) (Ask.loaded_asks w words K) no_car_lem) λ n8.
       silent x (Ask.go_asks w words K) λ n9.
-      let out : (w.car_count ≤ n words → ⊥) = λ h. n8 (Ask.loaded_of_command w words K h) in
-      let over : (8 < (car_at w.cars (n words)).command_count → ⊥) = λ h. n0 (commands_above (n words) (omega (arith, out)) h) in
+      let out : (w.cars.count ≤ n words → ⊥) = λ h. n8 (Ask.loaded_of_command w words K h) in
+      let over : (8 < (car_at w.cars.items (n words)).door_command_queue.count → ⊥) = λ h. n0 (commands_above (n words) (omega (arith, out)) h) in
       asked x refl
-      (through (Ask.queue_of_command w words K) (Ask.queue_asks w words K) (full (car_at w.cars (n words)).command_count (omega (arith, over)))) λ n10.
+      (through (Ask.queue_of_command w words K) (Ask.queue_asks w words K) (full (car_at w.cars.items (n words)).door_command_queue.count (omega (arith, over)))) λ n10.
       silent x (Ask.last_asks w words K) λ n11.
       silent x (Ask.log_asks w words log K) λ n12.
       done x
@@ -427,7 +427,7 @@ module _ (x : Verdict) (w : World) (words log : List ℕ) where
       silent x (Ask.float_asks words K) λ n4.
       asked x refl (unstarted (omega arith) (omega arith) K (Ask.now_asks w words K)) λ n6.
       silent x (Ask.next_asks w words K) λ n7.
-      asked x refl (through (Ask.loaded_of_call w words K) (Ask.loaded_asks w words K) (most w.stop_count (s words))) λ n8.
+      asked x refl (through (Ask.loaded_of_call w words K) (Ask.loaded_asks w words K) (most w.stops.count (s words))) λ n8.
       quiet K (λ e. e) (λ e. e) (λ e. e) (λ e. e)
 
   destination_read : sound → kind words ≡ 10 → Read x (read_in (destination_record head)) behind_kind
@@ -438,12 +438,12 @@ module _ (x : Verdict) (w : World) (words log : List ℕ) where
       silent x (Ask.float_asks words K) λ n4.
       asked x refl (unstarted (omega arith) (omega arith) K (Ask.now_asks w words K)) λ n6.
       silent x (Ask.next_asks w words K) λ n7.
-      asked x refl (through (Ask.loaded_of_destination w words K) (Ask.loaded_asks w words K) (no_car_lem or most w.stop_count (s words))) λ n8.
+      asked x refl (through (Ask.loaded_of_destination w words K) (Ask.loaded_asks w words K) (no_car_lem or most w.stops.count (s words))) λ n8.
       silent x (Ask.go_asks w words K) λ n9.
-      let out : (w.car_count ≤ n words → ⊥) = λ h. n8 (Ask.loaded_of_destination w words K (inl h)) in
-      let over : (8 < (car_at w.cars (n words)).destination_count → ⊥) = λ h. n0 (destinations_above (n words) (omega (arith, out)) h) in
+      let out : (w.cars.count ≤ n words → ⊥) = λ h. n8 (Ask.loaded_of_destination w words K (inl h)) in
+      let over : (8 < (car_at w.cars.items (n words)).destination_queue.count → ⊥) = λ h. n0 (destinations_above (n words) (omega (arith, out)) h) in
       asked x refl
-      (through (Ask.queue_of_destination w words K) (Ask.queue_asks w words K) (full (car_at w.cars (n words)).destination_count (omega (arith, over)))) λ n10.
+      (through (Ask.queue_of_destination w words K) (Ask.queue_asks w words K) (full (car_at w.cars.items (n words)).destination_queue.count (omega (arith, over)))) λ n10.
       silent x (Ask.last_asks w words K) λ n11.
       silent x (Ask.log_asks w words log K) λ n12.
       done x
@@ -460,10 +460,10 @@ module _ (x : Verdict) (w : World) (words log : List ℕ) where
       quiet K (λ e. e) (λ e. e) (λ e. e) (λ e. e)
 
   -- the room is the paper's where the world is not broken
-  short : sound → Decides (length log < w.car_count * (w.stop_count + 14) + 1) (ltb (length log) (room_for w.car_count w.stop_count))
+  short : sound → Decides (length log < w.cars.count * (w.stops.count + 14) + 1) (ltb (length log) (room_for w.cars.count w.stops.count))
   unfolding PaperRoom
   short n0 =
-      let room = w.car_count * (w.stop_count + 14) + 1 in
+      let room = w.cars.count * (w.stops.count + 14) + 1 in
       subst⁻¹ (λ (y : ℕ). Decides (length log < room) (ltb (length log) y)) (paper_room w (fails (broken_decided w) n0)) (less (length log) room)
 
   tick_read : sound → kind words ≡ 12 → Read x (read_in (tick_record head words)) behind_kind

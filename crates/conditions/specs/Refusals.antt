@@ -100,52 +100,52 @@ pub data NotAboveZero (most x : Float) : Type 0 where
 
 pub data Broken (w : World) : Type 0 where
   -- "a count above its table": 64 stops, 8 lines, 16 cars, 128 riders; 64 stops in a line's list
-  stops_above : 64 < w.stop_count → Broken w
-  lines_above : 8 < w.line_count → Broken w
-  cars_above : 16 < w.car_count → Broken w
-  riders_above : 128 < w.rider_count → Broken w
-  list_above : (l : ℕ) → l < w.line_count → 64 < (line_at w.lines l).serves_count → Broken w
+  stops_above : 64 < w.stops.count → Broken w
+  lines_above : 8 < w.lines.count → Broken w
+  cars_above : 16 < w.cars.count → Broken w
+  riders_above : 128 < w.riders.count → Broken w
+  list_above : (l : ℕ) → l < w.lines.count → 64 < (line_at w.lines.items l).serves_count → Broken w
   -- ".. or limit": tick 268,435,455 is the last that is made
   ticks_above : 268435456 < w.ticks → Broken w
   -- "a queue above 8"
-  destinations_above : (c : ℕ) → c < w.car_count → 8 < (car_at w.cars c).destination_count → Broken w
-  commands_above : (c : ℕ) → c < w.car_count → 8 < (car_at w.cars c).command_count → Broken w
+  destinations_above : (c : ℕ) → c < w.cars.count → 8 < (car_at w.cars.items c).destination_queue.count → Broken w
+  commands_above : (c : ℕ) → c < w.cars.count → 8 < (car_at w.cars.items c).door_command_queue.count → Broken w
   -- "a move counter of 2 to the 48 or more": the total and the cars' counters
   total_high : 2 ^ 48 ≤ w.total_moves → Broken w
-  moves_high : (c : ℕ) → c < w.car_count → 2 ^ 48 ≤ (car_at w.cars c).move_count → Broken w
+  moves_high : (c : ℕ) → c < w.cars.count → 2 ^ 48 ≤ (car_at w.cars.items c).move_count → Broken w
   -- "or a number in it that is not loaded", which is one that is not below the count of its table: in a line's list
   listed_unloaded :
-      (l i : ℕ) → l < w.line_count → i < (line_at w.lines l).serves_count
-      → w.stop_count ≤ get_or (line_at w.lines l).serves i 0 → Broken w
+      (l i : ℕ) → l < w.lines.count → i < (line_at w.lines.items l).serves_count
+      → w.stops.count ≤ get_or (line_at w.lines.items l).serves i 0 → Broken w
   -- a car's line, the stop of its phase, its target, its destinations
-  line_unloaded : (c : ℕ) → c < w.car_count → w.line_count ≤ (car_at w.cars c).line → Broken w
+  line_unloaded : (c : ℕ) → c < w.cars.count → w.lines.count ≤ (car_at w.cars.items c).line → Broken w
   moving_unloaded :
-      (c stop : ℕ) → c < w.car_count → (car_at w.cars c).phase ≡ MovingToStop stop → w.stop_count ≤ stop
+      (c stop : ℕ) → c < w.cars.count → (car_at w.cars.items c).phase ≡ MovingToStop stop → w.stops.count ≤ stop
       → Broken w
   repositioning_unloaded :
-      (c stop : ℕ) → c < w.car_count → (car_at w.cars c).phase ≡ Repositioning stop → w.stop_count ≤ stop
+      (c stop : ℕ) → c < w.cars.count → (car_at w.cars.items c).phase ≡ Repositioning stop → w.stops.count ≤ stop
       → Broken w
   target_unloaded :
-      (c stop : ℕ) → c < w.car_count → (car_at w.cars c).target_stop ≡ Some stop → w.stop_count ≤ stop
+      (c stop : ℕ) → c < w.cars.count → (car_at w.cars.items c).target_stop ≡ Some stop → w.stops.count ≤ stop
       → Broken w
   queued_unloaded :
-      (c i : ℕ) → c < w.car_count → i < (car_at w.cars c).destination_count
-      → w.stop_count ≤ get_or (car_at w.cars c).destination_queue i 0 → Broken w
+      (c i : ℕ) → c < w.cars.count → i < (car_at w.cars.items c).destination_queue.count
+      → w.stops.count ≤ get_or (car_at w.cars.items c).destination_queue.items i 0 → Broken w
   -- a rider's destination, the car of its phase, the car aboard
   route_unloaded :
-      (r stop : ℕ) → r < w.rider_count → (rider_at w.riders r).destination ≡ Some stop → w.stop_count ≤ stop
+      (r stop : ℕ) → r < w.riders.count → (rider_at w.riders.items r).destination ≡ Some stop → w.stops.count ≤ stop
       → Broken w
   boarding_unloaded :
-      (r c : ℕ) → r < w.rider_count → (rider_at w.riders r).phase ≡ Boarding c → w.car_count ≤ c → Broken w
+      (r c : ℕ) → r < w.riders.count → (rider_at w.riders.items r).phase ≡ Boarding c → w.cars.count ≤ c → Broken w
   riding_unloaded :
-      (r c : ℕ) → r < w.rider_count → (rider_at w.riders r).phase ≡ Riding c → w.car_count ≤ c → Broken w
+      (r c : ℕ) → r < w.riders.count → (rider_at w.riders.items r).phase ≡ Riding c → w.cars.count ≤ c → Broken w
   exiting_unloaded :
-      (r c : ℕ) → r < w.rider_count → (rider_at w.riders r).phase ≡ Exiting c → w.car_count ≤ c → Broken w
+      (r c : ℕ) → r < w.riders.count → (rider_at w.riders.items r).phase ≡ Exiting c → w.cars.count ≤ c → Broken w
   aboard_unloaded :
-      (r c : ℕ) → r < w.rider_count → (rider_at w.riders r).aboard ≡ Some c → w.car_count ≤ c → Broken w
+      (r c : ℕ) → r < w.riders.count → (rider_at w.riders.items r).aboard ≡ Some c → w.cars.count ≤ c → Broken w
   -- the stop of a hall call
-  up_unloaded : (stop : ℕ) → w.stop_count ≤ stop → called w.up_calls stop ≡ true → Broken w
-  down_unloaded : (stop : ℕ) → w.stop_count ≤ stop → called w.down_calls stop ≡ true → Broken w
+  up_unloaded : (stop : ℕ) → w.stops.count ≤ stop → called w.up_calls stop ≡ true → Broken w
+  down_unloaded : (stop : ℕ) → w.stops.count ≤ stop → called w.down_calls stop ≡ true → Broken w
 
 -- ---- 1: "no word, or a body cut short", asked in two places
 
@@ -249,45 +249,45 @@ pub data NotNow (w : World) (words : List ℕ) : Type 0 where
 -- ---- 7: "a stop, line, car or rider number above the next unused one; for stops, lines and cars, also one below it"
 
 pub data NotNext (w : World) (words : List ℕ) : Type 0 where
-  stop_above : kind words ≡ 2 → w.stop_count < s words → NotNext w words
-  line_above : kind words ≡ 1 → w.line_count < n words → NotNext w words
-  car_above : kind words ≡ 3 → w.car_count < n words → NotNext w words
-  rider_above : kind words ≡ 4 → w.rider_count < s words → NotNext w words
-  stop_below : kind words ≡ 2 → s words < w.stop_count → NotNext w words
-  line_below : kind words ≡ 1 → n words < w.line_count → NotNext w words
-  car_below : kind words ≡ 3 → n words < w.car_count → NotNext w words
+  stop_above : kind words ≡ 2 → w.stops.count < s words → NotNext w words
+  line_above : kind words ≡ 1 → w.lines.count < n words → NotNext w words
+  car_above : kind words ≡ 3 → w.cars.count < n words → NotNext w words
+  rider_above : kind words ≡ 4 → w.riders.count < s words → NotNext w words
+  stop_below : kind words ≡ 2 → s words < w.stops.count → NotNext w words
+  line_below : kind words ≡ 1 → n words < w.lines.count → NotNext w words
+  car_below : kind words ≡ 3 → n words < w.cars.count → NotNext w words
 
 -- ---- 8: "a car, stop or line named but not loaded"
 
 pub data NotLoaded (w : World) (words : List ℕ) : Type 0 where
   -- "n car": of a send, a mode, a manual speed, a door command, a destination and kind B
-  car_named : OneOf (kind words) (5 ∷ 6 ∷ 7 ∷ 8 ∷ 10 ∷ 11 ∷ []) → w.car_count ≤ n words → NotLoaded w words
+  car_named : OneOf (kind words) (5 ∷ 6 ∷ 7 ∷ 8 ∷ 10 ∷ 11 ∷ []) → w.cars.count ≤ n words → NotLoaded w words
   -- "s stop": of a send, a hall call and a destination
-  stop_named : OneOf (kind words) (5 ∷ 9 ∷ 10 ∷ []) → w.stop_count ≤ s words → NotLoaded w words
+  stop_named : OneOf (kind words) (5 ∷ 9 ∷ 10 ∷ []) → w.stops.count ≤ s words → NotLoaded w words
   -- a car's "s line"
-  line_named : kind words ≡ 3 → w.line_count ≤ s words → NotLoaded w words
+  line_named : kind words ≡ 3 → w.lines.count ≤ s words → NotLoaded w words
   -- a line's served stops
   served_named :
-      (i : ℕ) → kind words ≡ 1 → i < served words → w.stop_count ≤ get_or words (5 + i) 0 → NotLoaded w words
+      (i : ℕ) → kind words ≡ 1 → i < served words → w.stops.count ≤ get_or words (5 + i) 0 → NotLoaded w words
   -- a rider's "destination stop or 65,535 for none", "phase's car (phases 1 to 3 ..)", "car aboard or 255"
-  route_named : kind words ≡ 4 → v words ≢ 65535 → w.stop_count ≤ v words → NotLoaded w words
+  route_named : kind words ≡ 4 → v words ≢ 65535 → w.stops.count ≤ v words → NotLoaded w words
   phase_car_named :
-      kind words ≡ 4 → 1 ≤ phase_of words → phase_of words ≤ 3 → w.car_count ≤ phase_car_of words → NotLoaded w words
-  aboard_named : kind words ≡ 4 → aboard_of words ≢ 255 → w.car_count ≤ aboard_of words → NotLoaded w words
+      kind words ≡ 4 → 1 ≤ phase_of words → phase_of words ≤ 3 → w.cars.count ≤ phase_car_of words → NotLoaded w words
+  aboard_named : kind words ≡ 4 → aboard_of words ≢ 255 → w.cars.count ≤ aboard_of words → NotLoaded w words
 
 -- ---- 9: "send to a car that is disabled, or neither Idle nor Stopped"
 
 pub data CannotGo (w : World) (words : List ℕ) : Type 0 where
-  car_disabled : kind words ≡ 5 → (car_at w.cars (n words)).enabled ≡ false → CannotGo w words
+  car_disabled : kind words ≡ 5 → (car_at w.cars.items (n words)).enabled ≡ false → CannotGo w words
   car_busy :
-      kind words ≡ 5 → (car_at w.cars (n words)).phase ≢ Idle → (car_at w.cars (n words)).phase ≢ Stopped
+      kind words ≡ 5 → (car_at w.cars.items (n words)).phase ≢ Idle → (car_at w.cars.items (n words)).phase ≢ Stopped
       → CannotGo w words
 
 -- ---- 10: "the queue that the record adds to (8: the car's door queue, A: its destination queue) holds 8"
 
 pub data QueueFull (w : World) (words : List ℕ) : Type 0 where
-  commands_full : kind words ≡ 8 → (car_at w.cars (n words)).command_count ≡ 8 → QueueFull w words
-  destinations_full : kind words ≡ 10 → (car_at w.cars (n words)).destination_count ≡ 8 → QueueFull w words
+  commands_full : kind words ≡ 8 → (car_at w.cars.items (n words)).door_command_queue.count ≡ 8 → QueueFull w words
+  destinations_full : kind words ≡ 10 → (car_at w.cars.items (n words)).destination_queue.count ≡ 8 → QueueFull w words
 
 -- ---- 11: "a tick when tick 268,435,455 has been made (the first is 0)"
 
@@ -297,7 +297,7 @@ pub data LastTick (w : World) (words : List ℕ) : Type 0 where
 -- ---- 12: "the lent log is shorter than cars × (stops + 14) + 1, on ticks only"
 
 pub data LogShort (w : World) (words log : List ℕ) : Type 0 where
-  log_short : kind words ≡ 12 → length log < w.car_count * (w.stop_count + 14) + 1 → LogShort w words log
+  log_short : kind words ≡ 12 → length log < w.cars.count * (w.stops.count + 14) + 1 → LogShort w words log
 
 -- ---- the places where they are asked, in their order
 

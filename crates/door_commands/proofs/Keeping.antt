@@ -90,4 +90,4 @@ module _
 
     pub commands_keep : Has c.phase c.door → Has (process_door_commands c here traversing).phase (process_door_commands c here traversing).door
     unfolding process_door_commands
-    commands_keep = work_keeps (min c.command_count 8)
+    commands_keep = work_keeps (min c.door_command_queue.count 8)

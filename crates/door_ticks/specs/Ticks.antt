@@ -39,7 +39,7 @@ turned c words opened = record { car = c; words = words; opened = opened }
 
 -- the car as its commands left it, with a phase and a door
 abbrev pub rested : Car → Work → ElevatorPhase → DoorState → Car
-rested c k phase door = with_door c phase door c.target_stop (lamps_of c) c.going_forward k.queue k.count
+rested c k phase door = with_door c phase door c.target_stop c.lamps c.going_forward k.queue
 
 abbrev pub rests : Car → Work → ElevatorPhase → DoorState → Turn
 rests c k phase door = turned (rested c k phase door) [] not_opened
@@ -47,7 +47,7 @@ rests c k phase door = turned (rested c k phase door) [] not_opened
 -- run, FinishedOpening: what goes into just_opened
 abbrev pub opened_at : Option ℕ → Car → Option JustOpened
 opened_at None c = None
-opened_at (Some s) c = Some (record { stop = s; going_up = c.going_up; going_down = c.going_down })
+opened_at (Some s) c = Some (record { stop = s; lamps = c.lamps })
 
 -- run, FinishedClosing on a loop: the word of where the car departed from
 abbrev pub departed_from : Option ℕ → ℕ → List ℕ
@@ -58,13 +58,13 @@ departed_from (Some s) i = word_of (ElevatorDeparted i s) ∷ []
 abbrev pub finished_closing : Option ℕ → ℕ → Car → Work → DoorState → Turn
 finished_closing (Some next) i c k door =
     turned
-    (with_door c (MovingToStop next) door (Some next) unlit true k.queue k.count)
-    (word_of (DoorClosed i) ∷ (update_indicators i (lamps_of c) unlit ++ departed_from c.target_stop i))
+    (with_door c (MovingToStop next) door (Some next) unlit true k.queue)
+    (word_of (DoorClosed i) ∷ (update_indicators i c.lamps unlit ++ departed_from c.target_stop i))
     not_opened
 finished_closing None i c k door =
     turned
-    (with_door c Stopped door None both_lit c.going_forward k.queue k.count)
-    (word_of (DoorClosed i) ∷ update_indicators i (lamps_of c) both_lit)
+    (with_door c Stopped door None both_lit c.going_forward k.queue)
+    (word_of (DoorClosed i) ∷ update_indicators i c.lamps both_lit)
     not_opened
 
 -- run, FinishedOpening

@@ -67,24 +67,24 @@ unskipped false u e h = absurd (true≢false e)
 
 module _ {l l' : List ℕ} {at : ℕ} {r : Turned} where
   -- who stands on the threshold matters only to a command
-  asked : (i : ℕ) (c : Car) (a traversing u : Bool) (next : Option ℕ) → (c.command_count ≡ 0) ⊎ (traversing ≡ u) → Turns (door_turn i c a traversing next) l at l' r
+  asked : (i : ℕ) (c : Car) (a traversing u : Bool) (next : Option ℕ) → (c.door_command_queue.count ≡ 0) ⊎ (traversing ≡ u) → Turns (door_turn i c a traversing next) l at l' r
       → Turns (door_turn i c a u next) l at l' r
   asked i c a traversing u next k h =
       ⊎_elim (λ e. rw (no_work c a u e, no_words c a u i e) (rw (no_work c a traversing e, no_words c a traversing i e) at h)) (λ e. rw (← e) h) k
 
   -- by the line that was read, and by who was found on the threshold, if anybody was looked for
-  pub turn_on_lem : (w : World) (i : ℕ) (c : Car) (line : Line) (traversing : Bool) → line ≡ line_of w.lines c.line
-      → (c.command_count ≡ 0) ⊎ (traversing ≡ has_rider_traversing w.riders w.rider_count i)
-      → Turns (door_turn i c (at_stop line w.stops w.stop_count c.motion.position) traversing (loop_next_stop_for_car line w.stops c.motion.position)) l at l' r
-      → Turns (turn_on w i c (line_of w.lines c.line)) l at l' r
+  pub turn_on_lem : (w : World) (i : ℕ) (c : Car) (line : Line) (traversing : Bool) → line ≡ line_of w.lines.items c.line
+      → (c.door_command_queue.count ≡ 0) ⊎ (traversing ≡ has_rider_traversing w.riders i)
+      → Turns (door_turn i c (at_stop line w.stops c.motion.position) traversing (loop_next_stop_for_car line w.stops.items c.motion.position)) l at l' r
+      → Turns (turn_on w i c (line_of w.lines.items c.line)) l at l' r
   turn_on_lem w i c line traversing f k h = asked i c _ traversing _ _ k (rw f at h)
 
   -- it is the car's turn
   by : (w : World) (t : Turn) → Turns t l at l' r → step_by w t ≡ step_of w r.car t.words r.opened
   by w t h = rw (h.car, h.opened)
 
-  pub door_of_lem : (w : World) (i : ℕ) → Turns (turn_on w i (car_at w.cars i) (line_of w.lines (car_at w.cars i).line)) l at l' r
-      → door_of w i ≡ step_of w r.car (turn_on w i (car_at w.cars i) (line_of w.lines (car_at w.cars i).line)).words r.opened
+  pub door_of_lem : (w : World) (i : ℕ) → Turns (turn_on w i (car_at w.cars.items i) (line_of w.lines.items (car_at w.cars.items i).line)) l at l' r
+      → door_of w i ≡ step_of w r.car (turn_on w i (car_at w.cars.items i) (line_of w.lines.items (car_at w.cars.items i).line)).words r.opened
   unfolding door_of
   door_of_lem w i h = by w _ h
 
@@ -98,8 +98,8 @@ quiet true true false h f = absurd (true≢false h)
 quiet true false stays h f = absurd (true≢false h)
 
 -- a car with its own number of commands
-as_it_is : (c : Car) (n : ℕ) → n ≡ c.command_count → with_door c c.phase c.door c.target_stop (lamps_of c) c.going_forward c.door_command_queue n ≡ c
-as_it_is c n e = ap (λ (m : ℕ). with_door c c.phase c.door c.target_stop (lamps_of c) c.going_forward c.door_command_queue m) e
+as_it_is : (c : Car) (n : ℕ) → n ≡ c.door_command_queue.count → with_door c c.phase c.door c.target_stop (lamps_of c) c.going_forward c.door_command_queue.items n ≡ c
+as_it_is c n e = ap (λ (m : ℕ). with_door c c.phase c.door c.target_stop (lamps_of c) c.going_forward c.door_command_queue.items m) e
 
 resting : (i : ℕ) (c : Car) (k : Work) (words : List ℕ) (next : Option ℕ) → k ≡ unworked c → words ≡ [] → stays c.phase c.door c ≡ true
     → turn_by i c k words next ≡ turned (rested c (unworked c) c.phase c.door) [] not_opened
@@ -107,14 +107,14 @@ resting i c k words next e f s = rw (e, f, s)
 
 still : (i : ℕ) (c : Car) (a traversing : Bool) (next : Option ℕ) → has_turn c ≡ false → door_turn i c a traversing next ≡ turned c [] not_opened
 still i c a traversing next h =
-    quiet c.enabled (eqb c.command_count 0) (stays c.phase c.door c) h
-    (λ n s. let e = eqb-true c.command_count 0 n in
+    quiet c.enabled (eqb c.door_command_queue.count 0) (stays c.phase c.door c) h
+    (λ n s. let e = eqb-true c.door_command_queue.count 0 n in
     resting i c (process_door_commands c a traversing) (command_words c a traversing i) next (no_work c a traversing e) (no_words c a traversing i e) s
     ∙ ap (λ (d : Car). turned d [] not_opened) (as_it_is c 0 (sym e)))
 
-still_of : (w : World) (i : ℕ) → has_turn (car_at w.cars i) ≡ false → door_of w i ≡ step_of w (car_at w.cars i) [] not_opened
+still_of : (w : World) (i : ℕ) → has_turn (car_at w.cars.items i) ≡ false → door_of w i ≡ step_of w (car_at w.cars.items i) [] not_opened
 unfolding door_of
-still_of w i h = ap (step_by w) (still i (car_at w.cars i) _ _ _ h)
+still_of w i h = ap (step_by w) (still i (car_at w.cars.items i) _ _ _ h)
 
 -- nothing has opened where no car has had its turn
 unopened : (turn : World → ℕ → Step) (w : World) (j : ℕ) → j < 16 → (i : ℕ) → i ≤ j → get_or (run_to turn w i).opened j not_opened ≡ not_opened
@@ -127,15 +127,15 @@ opened_same : (os : List (Option JustOpened)) (i : ℕ) → get_or os i not_open
 opened_same os i e = sym (set-get_or os i not_opened) ∙ ap (set os i) e
 
 pub passed : {world w : World} {l l' : List ℕ} {at i to : ℕ} {opened : List (Option JustOpened)} → Runs door_of world l at i w opened l' to → i < 16
-    → has_turn (car_at w.cars i) ≡ false
+    → has_turn (car_at w.cars.items i) ≡ false
     → Runs door_of world l at (i + 1) w opened l' to
 passed {world = world} {w = w} {i = i} {opened = opened} k b h =
-    same (more (step_of w (car_at w.cars i) [] not_opened) k (still_of w i h) wrote_none) refl (stepped_same w i)
+    same (more (step_of w (car_at w.cars.items i) [] not_opened) k (still_of w i h) wrote_none) refl (stepped_same w i)
     (opened_same opened i (ap (λ (os : List (Option JustOpened)). get_or os i not_opened) k.opens ∙ unopened door_of world i b i (omega arith))) refl
 
 -- all cars' turns, then the hall calls
 pub ended : {world w : World} {l l' l'' : List ℕ} {at to : ℕ} {opened : List (Option JustOpened)} {r : Calls} → Runs door_of world l at (cars_of world) w opened l' to
     → Clears (clear_to opened (standing world) (cars_of world)) (clear_words_to opened (standing world) (cars_of world)) l' to l'' r
-    → (with_people w w.riders w.rider_count r.up r.down ≡ doors_world world) × Wrote l at (doors_words world) l'' r.at
+    → (with_people w w.riders r.up r.down ≡ doors_world world) × Wrote l at (doors_words world) l'' r.at
 unfolding doors_world doors_words doored run_cars
 ended k h = (rw (← k.left, ← k.opens, ← h.calls), rw (← k.opens) (also k.wrote h.wrote))

@@ -24,19 +24,19 @@ door_turn i c at_stop traversing next =
 
 -- whether the turn may change anything: not of a disabled car, nor without a command where the door's tick is left out
 abbrev pub has_turn : Car → Bool
-has_turn c = c.enabled && (not (eqb c.command_count 0) || not (stays c.phase c.door c))
+has_turn c = c.enabled && (not (eqb c.door_command_queue.count 0) || not (stays c.phase c.door c))
 
 -- the turn of a car on its line
 abbrev pub turn_on : World → ℕ → Car → Line → Turn
 turn_on w i c line =
-    door_turn i c (at_stop line w.stops w.stop_count c.motion.position) (has_rider_traversing w.riders w.rider_count i)
-    (loop_next_stop_for_car line w.stops c.motion.position)
+    door_turn i c (at_stop line w.stops c.motion.position) (has_rider_traversing w.riders i)
+    (loop_next_stop_for_car line w.stops.items c.motion.position)
 
 abbrev pub step_by : World → Turn → Step
 step_by w t = step_of w t.car t.words t.opened
 
 unfoldable pub door_of : World → ℕ → Step
-door_of w i = step_by w (turn_on w i (car_at w.cars i) (line_of w.lines (car_at w.cars i).line))
+door_of w i = step_by w (turn_on w i (car_at w.cars.items i) (line_of w.lines.items (car_at w.cars.items i).line))
 
 -- ---- doors.rs, run
 
@@ -47,12 +47,12 @@ abbrev pub standing : World → Standing
 standing w = standing_in w.up_calls w.down_calls
 
 abbrev pub cars_of : World → ℕ
-cars_of w = min w.car_count 16
+cars_of w = min w.cars.count 16
 
 unfoldable pub doors_world : World → World
 doors_world w =
     let h = clear_to (doored w).opened (standing w) (cars_of w) in
-    with_people (doored w).world (doored w).world.riders (doored w).world.rider_count h.up h.down
+    with_people (doored w).world (doored w).world.riders h.up h.down
 
 unfoldable pub doors_words : World → List ℕ
 doors_words w = (doored w).words ++ clear_words_to (doored w).opened (standing w) (cars_of w)

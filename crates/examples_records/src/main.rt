@@ -25,10 +25,10 @@ impl fmt::Display for Ended {
             f,
             "accepted, {} words; {} stops {} lines {} cars {} riders, calls up {:x} down {:x}",
             self.used,
-            self.world.stop_count,
-            self.world.line_count,
-            self.world.car_count,
-            self.world.rider_count,
+            self.world.stops.count,
+            self.world.lines.count,
+            self.world.cars.count,
+            self.world.riders.count,
             self.world.up_calls,
             self.world.down_calls
         )

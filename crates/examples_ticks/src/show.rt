@@ -118,7 +118,7 @@ struct Destinations<'a>(&'a Car);
 impl fmt::Display for Destinations<'_> {
     fn fmt<W: fmt::Write>(&self, f: &mut fmt::Formatter<W>) -> fmt::Result {
         let car = self.0;
-        for stop in car.destination_queue.iter().take(car.destination_count) {
+        for stop in car.destination_queue.iter().take(car.destination_queue.count) {
             write!(f, "{}", Stop(*stop))?;
         }
         Ok(())
@@ -132,7 +132,7 @@ struct Commands<'a>(&'a Car);
 impl fmt::Display for Commands<'_> {
     fn fmt<W: fmt::Write>(&self, f: &mut fmt::Formatter<W>) -> fmt::Result {
         let car = self.0;
-        for command in car.door_command_queue.iter().take(car.command_count) {
+        for command in car.door_command_queue.iter().take(car.door_command_queue.count) {
             match *command {
                 DoorCommand::Open => write!(f, "00000")?,
                 DoorCommand::Close => write!(f, "10000")?,
@@ -190,7 +190,7 @@ impl fmt::Display for Tick<'_> {
             write!(f, "{word:08x} ")?;
         }
         writeln!(f, "")?;
-        for car in world.cars.iter().take(world.car_count) {
+        for car in world.cars.items.iter().take(world.cars.count) {
             writeln!(f, "{}", CarLine(car))?;
         }
         writeln!(

@@ -34,11 +34,11 @@ both_ways calls = standing_in calls.up calls.down
 -- clear_matching_hall_calls, for what car i opened: up before down
 abbrev pub clear_matching : Option JustOpened → Standing → Standing
 clear_matching None h = h
-clear_matching (Some o) h = record { up = clear_one h.up o.stop o.going_up; down = clear_one h.down o.stop o.going_down }
+clear_matching (Some o) h = record { up = clear_one h.up o.stop o.lamps.going_up; down = clear_one h.down o.stop o.lamps.going_down }
 
 abbrev pub clear_matching_words : Option JustOpened → ℕ → Standing → List ℕ
 clear_matching_words None i h = []
-clear_matching_words (Some o) i h = clear_word h.up i o.stop o.going_up false ++ clear_word h.down i o.stop o.going_down true
+clear_matching_words (Some o) i h = clear_word h.up i o.stop o.lamps.going_up false ++ clear_word h.down i o.stop o.lamps.going_down true
 
 module _ (opened : List (Option JustOpened)) (h : Standing) where
   abbrev pub opened_of : ℕ → Option JustOpened

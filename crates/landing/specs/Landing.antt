@@ -10,6 +10,7 @@ use Rattle.velocity.specs.Velocity.{fma, manual_velocity}
 use Rattle.motion.specs.declared.movement.MovementResult.{MovementResult}
 use Rattle.world.specs.World.{stop_at}
 use Rattle.world.specs.declared.Car.{Car}
+use Rattle.world.specs.declared.Table.{Table}
 use Rattle.world.specs.declared.Motion.{Motion}
 use Rattle.world.specs.declared.LineKind.{LineKind}
 use Rattle.world.specs.declared.LineKind.TheVariants.{Linear, Loop}
@@ -21,9 +22,9 @@ use Rattle.trips.specs.declared.Trip.{Trip}
 use Rattle.trips.specs.declared.Trip.TheVariants.{Rests, Drives, GoesTo, Repositions}
 
 -- "On a loop the leader is the other car of the line": loop_leader_pos, on positions already updated
-abbrev pub leader_of : LineKind → List Car → ℕ → ℕ → Car → Option Float
-leader_of Linear cars count i c = None
-leader_of (Loop circumference headway) cars count i c = loop_leader_pos cars count i c.line c.motion.position circumference
+abbrev pub leader_of : LineKind → Table Car 16 → ℕ → Car → Option Float
+leader_of Linear cars i c = None
+leader_of (Loop circumference headway) cars i c = loop_leader_pos cars i c.line c.motion.position circumference
 
 -- "Inspection multiplies max speed by the factor"
 abbrev pub max_speed_of : Car → Float

@@ -13,7 +13,7 @@ use steps::is_inspection;
 use trips::Trip;
 use velocity::fp::fma;
 use velocity::manual_velocity;
-use world::{Car, LineKind, Motion};
+use world::{Car, LineKind, Motion, Table};
 
 // Inspection multiplies max speed by the factor.
 fn max_speed(car: Car) -> f64
@@ -191,18 +191,16 @@ pub fn landing(
 // The leader of a car, by its line's kind.
 pub fn leader_of(
     kind: LineKind,
-    cars: [Car; 16],
-    car_count: usize,
+    cars: &Table<Car, 16>,
     i: usize,
     car: Car,
 ) -> Option<f64>
-    ensures { result ≡ Landing.leader_of kind cars car_count i car }
+    ensures { result ≡ Landing.leader_of kind cars.now i car }
 {
     match kind {
         LineKind::Linear => None,
         LineKind::Loop { circumference, .. } => loop_leader_pos(
             cars,
-            car_count,
             i,
             car.line,
             car.motion.position,

@@ -4,6 +4,7 @@ use Rattle.float.specs.Float.{total_before}
 use Rattle.motion.specs.Cyclic.{forward_distance}
 use Rattle.world.specs.World.{car_at}
 use Rattle.world.specs.declared.Car.{Car}
+use Rattle.world.specs.declared.Table.{Table}
 use Rattle.std.specs.declared.option.Option.{Option}
 use Rattle.std.specs.declared.option.Option.TheVariants.{None, Some}
 
@@ -40,8 +41,9 @@ leader_pos cars None = None
 leader_pos cars (Some j) = Some (position_of cars j)
 
 -- movement.rs, loop_leader_pos
-unfoldable pub loop_leader_pos : List Car → ℕ → ℕ → ℕ → Float → Float → Option Float
-loop_leader_pos cars count me line pos circumference = leader_pos cars (leader_to cars me line pos circumference (min count 16))
+unfoldable pub loop_leader_pos : Table Car 16 → ℕ → ℕ → Float → Float → Option Float
+loop_leader_pos cars me line pos circumference =
+    leader_pos cars.items (leader_to cars.items me line pos circumference (min cars.count 16))
 
 -- ---- a claim about the definition: it gives the position of the leader as the paper has it, and no leader only where there is none
 
@@ -63,5 +65,5 @@ Led cars count me line pos circumference (Some position) = (j : ℕ) × (IsLeade
 -- whatever the cars, the circle and the position
 unfoldable pub LeaderIsNearest : Type 0
 LeaderIsNearest =
-    (cars : List Car) (count me line : ℕ) (pos circumference : Float)
-    → Led cars count me line pos circumference (loop_leader_pos cars count me line pos circumference)
+    (cars : Table Car 16) (me line : ℕ) (pos circumference : Float)
+    → Led cars.items cars.count me line pos circumference (loop_leader_pos cars me line pos circumference)

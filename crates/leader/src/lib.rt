@@ -7,7 +7,7 @@ ghost use Rattle.leader.specs.Ahead.{is_nearer};
 
 use float::total_before;
 use motion::cyclic::forward_distance;
-use world::Car;
+use world::{Car, Table};
 
 // Whether car i is another car of the line, disabled or not.
 fn is_other(car: Car, me: usize, line: u8, i: usize) -> bool
@@ -26,22 +26,21 @@ fn is_nearer(found: bool, nearest: f64, distance: f64) -> bool
 // movement.rs, loop_leader_pos
 #[tactic(auto, using(crate::proofs::Lead::turn_of), unfolding(crate::specs::Leader::loop_leader_pos))]
 pub fn loop_leader_pos(
-    cars: [Car; 16],
-    car_count: usize,
+    cars: &Table<Car, 16>,
     me: usize,
     line: u8,
     pos: f64,
     circumference: f64,
 ) -> Option<f64>
-    ensures { result ≡ loop_leader_pos cars car_count me line pos circumference }
+    ensures { result ≡ loop_leader_pos cars.now me line pos circumference }
 {
-    let n = car_count.min(16);
+    let n = cars.count.min(16);
     // Stays: in place of these an Option would be copied, and a copy of an enum waits for its padding.
     let mut found = false;
     let mut nearest: f64 = 0.0;
     let mut position: f64 = 0.0;
     for i in 0..n {
-        let car = cars[i];
+        let car = cars.items[i];
         if is_other(car, me, line, i) {
             let distance = forward_distance(pos, car.motion.position, circumference);
             if is_nearer(found, nearest, distance) {

@@ -32,7 +32,7 @@ NoneManual (m ∷ ms) = (made_manual m ≡ false) × NoneManual ms
 unfoldable pub DoorsHeld : World → List Made → Type 0
 DoorsHeld w [] = Unit {0}
 DoorsHeld w (m ∷ ms) =
-    (made_tick m ≡ true → (i : ℕ) → i < w.car_count → is_closed (car_at w.cars i).door ≡ false
+    (made_tick m ≡ true → (i : ℕ) → i < w.cars.count → is_closed (car_at w.cars.items i).door ≡ false
     → position_of m.gave.world i ≡ position_of w i)
     × DoorsHeld m.gave.world ms
 

@@ -14,33 +14,28 @@ use Rattle.changes.specs.declared.Changed.{Changed}
 use Rattle.changes.specs.Changes.{refused, accepted, not_next}
 
 -- 1 line
-abbrev pub line_row : LineKind → Bool → ℕ → List ℕ → Line
-line_row kind listed count serves = record { kind = kind; listed = listed; serves = serves; serves_count = count }
-
 abbrev pub line_checks : World → ℕ → Line → List Check
 line_checks w number row =
     check NotNow w.started
-    ∷ check NotNext (not_next 8 w.line_count number)
-    ∷ check NotLoaded (line_broken w.stop_count row)
+    ∷ check NotNext (not_next 8 w.lines.count number)
+    ∷ check NotLoaded (line_broken w.stops.count row)
     ∷ []
 
 abbrev pub with_line : World → ℕ → Line → World
-with_line w number row = with_plan w w.stops w.stop_count (set w.lines number row) (number + 1) w.started
+with_line w number row = with_plan w w.stops (with_item w.lines number row (number + 1)) w.started
 
-unfoldable pub load_line : World → ℕ → LineKind → Bool → ℕ → List ℕ → Changed
-load_line w number kind listed count serves =
-    let row = line_row kind listed count serves in
-    unless (line_checks w number row) (refused w) (accepted (with_line w number row))
+unfoldable pub load_line : World → ℕ → Line → Changed
+load_line w number row = unless (line_checks w number row) (refused w) (accepted (with_line w number row))
 
 -- 2 stop
 abbrev pub stop_checks : World → ℕ → List Check
 stop_checks w number =
     check NotNow w.started
-    ∷ check NotNext (not_next 64 w.stop_count number)
+    ∷ check NotNext (not_next 64 w.stops.count number)
     ∷ []
 
 abbrev pub with_stop : World → ℕ → Float → World
-with_stop w number position = with_plan w (set w.stops number position) (number + 1) w.lines w.line_count w.started
+with_stop w number position = with_plan w (with_item w.stops number position (number + 1)) w.lines w.started
 
 unfoldable pub load_stop : World → ℕ → Float → Changed
 load_stop w number position = unless (stop_checks w number) (refused w) (accepted (with_stop w number position))
@@ -49,12 +44,12 @@ load_stop w number position = unless (stop_checks w number) (refused w) (accepte
 abbrev pub car_checks : World → ℕ → CarPlan → List Check
 car_checks w number plan =
     check NotNow w.started
-    ∷ check NotNext (not_next 16 w.car_count number)
-    ∷ check NotLoaded (unloaded w.line_count plan.line)
+    ∷ check NotNext (not_next 16 w.cars.count number)
+    ∷ check NotLoaded (unloaded w.lines.count plan.line)
     ∷ []
 
 unfoldable pub load_car : World → ℕ → CarPlan → Changed
-load_car w number plan = unless (car_checks w number plan) (refused w) (accepted (with_cars w (set w.cars number (new_car plan)) (number + 1)))
+load_car w number plan = unless (car_checks w number plan) (refused w) (accepted (with_cars w (with_item w.cars number (new_car plan) (number + 1))))
 
 -- the count of riders once this number is loaded: one more where it is new
 abbrev pub count_with : ℕ → ℕ → ℕ
@@ -63,13 +58,13 @@ count_with count number = cond (eqb number count) (number + 1) count
 -- 4 rider: "an old number replaces that rider"
 abbrev pub rider_checks : World → ℕ → Rider → List Check
 rider_checks w number rider =
-    check NotNext (leb 128 number || ltb w.rider_count number)
-    ∷ check NotLoaded (rider_broken w.stop_count w.car_count rider)
+    check NotNext (leb 128 number || ltb w.riders.count number)
+    ∷ check NotLoaded (rider_broken w.stops.count w.cars.count rider)
     ∷ []
 
 abbrev pub with_rider : World → ℕ → Rider → World
 with_rider w number rider =
-    with_people w (set w.riders number rider) (count_with w.rider_count number) w.up_calls w.down_calls
+    with_people w (with_item w.riders number rider (count_with w.riders.count number)) w.up_calls w.down_calls
 
 unfoldable pub load_rider : World → ℕ → Rider → Changed
 load_rider w number rider = unless (rider_checks w number rider) (refused w) (accepted (with_rider w number rider))

@@ -20,12 +20,12 @@ pub fn load_stop(world: World, number: u8, position: f64) -> Changed
         return refused(world, Refusal::NotNow);
     }
     let at = number as usize;
-    if (64 <= at) | (at != world.stop_count) {
+    if (64 <= at) | (at != world.stops.count) {
         return refused(world, Refusal::NotNext);
     }
     let mut next = world;
-    next.stops[at] = position;
-    next.stop_count = at + 1;
+    next.stops.items[at] = position;
+    next.stops.count = at + 1;
     accepted(next)
 }
 
@@ -43,15 +43,15 @@ pub fn load_rider(world: World, number: u8, rider: Rider) -> Changed
     ensures { result ≡ Loads.load_rider world number rider }
 {
     let at = number as usize;
-    if (128 <= at) | (world.rider_count < at) {
+    if (128 <= at) | (world.riders.count < at) {
         return refused(world, Refusal::NotNext);
     }
-    if rider_broken(world.stop_count, world.car_count, rider) {
+    if rider_broken(world.stops.count, world.cars.count, rider) {
         return refused(world, Refusal::NotLoaded);
     }
     let mut next = world;
-    next.riders[at] = rider;
-    next.rider_count = count_with(world.rider_count, number);
+    next.riders.items[at] = rider;
+    next.riders.count = count_with(world.riders.count, number);
     accepted(next)
 }
 
@@ -64,49 +64,36 @@ pub fn load_car(world: World, number: u8, plan: CarPlan) -> Changed
         return refused(world, Refusal::NotNow);
     }
     let at = number as usize;
-    if (16 <= at) | (at != world.car_count) {
+    if (16 <= at) | (at != world.cars.count) {
         return refused(world, Refusal::NotNext);
     }
-    if unloaded(world.line_count, plan.line) {
+    if unloaded(world.lines.count, plan.line) {
         return refused(world, Refusal::NotLoaded);
     }
     let mut next = world;
-    next.cars[at] = new_car(plan);
-    next.car_count = at + 1;
+    next.cars.items[at] = new_car(plan);
+    next.cars.count = at + 1;
     accepted(next)
 }
 
 // Kind 1.
 // Stays: beside load_car: each names its own table, count and row.
 #[tactic(auto, unfolding(crate::specs::Loads::load_line))]
-pub fn load_line(
-    world: World,
-    number: u8,
-    kind: LineKind,
-    listed: bool,
-    count: usize,
-    serves: [u8; 64],
-) -> Changed
-    ensures { result ≡ Loads.load_line world number kind listed count serves }
+pub fn load_line(world: World, number: u8, line: Line) -> Changed
+    ensures { result ≡ Loads.load_line world number line }
 {
     if world.started {
         return refused(world, Refusal::NotNow);
     }
     let at = number as usize;
-    if (8 <= at) | (at != world.line_count) {
+    if (8 <= at) | (at != world.lines.count) {
         return refused(world, Refusal::NotNext);
     }
-    let row = Line {
-        kind,
-        listed,
-        serves,
-        serves_count: count,
-    };
-    if line_broken(world.stop_count, row) {
+    if line_broken(world.stops.count, line) {
         return refused(world, Refusal::NotLoaded);
     }
     let mut next = world;
-    next.lines[at] = row;
-    next.line_count = at + 1;
+    next.lines.items[at] = line;
+    next.lines.count = at + 1;
     accepted(next)
 }

@@ -26,21 +26,16 @@ first_standing stops position candidate (suc m) i =
     cond (stands_at (stop_at stops (candidate i)) position) (Some (candidate i)) (first_standing stops position candidate m (i + 1))
 
 -- world.rs, find_stop_at_position: in number order
-unfoldable pub find_stop_at_position : List Float → ℕ → Float → Option ℕ
-find_stop_at_position stops count position = first_standing stops position (λ s. s) (min count 64) 0
+unfoldable pub find_stop_at_position : Stops → Float → Option ℕ
+find_stop_at_position stops position = first_standing stops.items position (λ s. s) (min stops.count 64) 0
 
 -- world.rs, find_stop_at_position_in: in the list's order
-unfoldable pub find_stop_at_position_in : List Float → Float → List ℕ → ℕ → Option ℕ
-find_stop_at_position_in stops position serves count = first_standing stops position (λ i. get_or serves i 0) (min count 64) 0
+unfoldable pub find_stop_at_position_in : List Float → Float → Table ℕ 64 → Option ℕ
+find_stop_at_position_in stops position serves = first_standing stops position (λ i. get_or serves.items i 0) (min serves.count 64) 0
 
 -- ---- what a line serves
-
--- what stands for a line past the table
-abbrev pub no_serves : Serves
-no_serves = record { listed = false; serves = replicate 64 0; serves_count = 0 }
 
 -- dispatch/mod.rs, elevator_line_serves: "a line's list is its serves"
 unfoldable pub elevator_line_serves : List Line → ℕ → Serves
 elevator_line_serves lines line =
-    let l = line_at lines line in
-    cond (ltb line 8) (record { listed = l.listed; serves = l.serves; serves_count = l.serves_count }) no_serves
+    cond (ltb line 8) (line_at lines line).serves serves_none

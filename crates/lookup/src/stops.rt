@@ -1,20 +1,12 @@
 // Stop look-ups: world.rs and dispatch/mod.rs. A count above its table is taken as the table's size.
-ghost use Rattle.std.specs.Prelude.{◌≡◌, min};
+ghost use Rattle.std.specs.Prelude.{◌≡◌};
 ghost use Rattle.world.specs.World.{stop_at};
 ghost use Rattle.lookup.specs.Stops.{stands_at, find_stop_at_position, find_stop_at_position_in, elevator_line_serves};
 
 use float::abs;
-use world::Line;
+use world::{Line, Serves, Stops, Table};
 
 const STOP_POSITION_EPSILON: f64 = 1e-6;
-
-// A line's list; `listed` is false where it has none.
-#[derive(Clone, Copy)]
-pub struct Serves {
-    pub listed: bool,
-    pub serves: [u8; 64],
-    pub serves_count: usize,
-}
 
 // world.rs, stop_position. Not a number past the table.
 pub fn stop_position(stops: &[f64; 64], s: u8) -> f64
@@ -22,7 +14,7 @@ pub fn stop_position(stops: &[f64; 64], s: u8) -> f64
 {
     let stops = &stops[..];
     let s = s as usize;
-    if s < stops.len() { stops[s] } else { 0.0 / 0.0 }
+    if s < stops.len() { stops[s] } else { f64::NAN }
 }
 
 // Whether a stop stands at a position.
@@ -35,12 +27,12 @@ fn stands_at(stop: f64, position: f64) -> bool
 
 // world.rs, find_stop_at_position
 #[tactic(auto, using(crate::proofs::Standing::standing), unfolding(crate::specs::Stops::find_stop_at_position))]
-pub fn find_stop_at_position(stops: &[f64; 64], stop_count: usize, position: f64) -> Option<u8>
-    ensures { result ≡ find_stop_at_position stops.now stop_count position }
+pub fn find_stop_at_position(stops: &Stops, position: f64) -> Option<u8>
+    ensures { result ≡ find_stop_at_position stops.now position }
 {
-    let n = stop_count.min(64);
+    let n = stops.count.min(64);
     for s in 0..n {
-        if stands_at(stops[s], position) {
+        if stands_at(stops.items[s], position) {
             return Some(s as u8);
         }
     }
@@ -53,13 +45,12 @@ pub fn find_stop_at_position(stops: &[f64; 64], stop_count: usize, position: f64
 pub fn find_stop_at_position_in(
     stops: &[f64; 64],
     position: f64,
-    serves: &[u8; 64],
-    serves_count: usize,
+    serves: &Table<u8, 64>,
 ) -> Option<u8>
-    ensures { result ≡ find_stop_at_position_in stops.now position serves.now serves_count }
+    ensures { result ≡ find_stop_at_position_in stops.now position serves.now }
 {
-    let n = serves_count.min(64);
-    for &s in &serves[..n] {
+    let n = serves.count.min(64);
+    for &s in &serves.items[..n] {
         if stands_at(stop_position(stops, s), position) {
             return Some(s);
         }
@@ -69,19 +60,8 @@ pub fn find_stop_at_position_in(
 
 // dispatch/mod.rs, elevator_line_serves
 #[tactic(auto, unfolding(crate::specs::Stops::elevator_line_serves))]
-pub fn elevator_line_serves(lines: [Line; 8], line: u8) -> Serves
-    ensures { result ≡ elevator_line_serves lines line }
+pub fn elevator_line_serves(lines: &[Line; 8], line: u8) -> Serves
+    ensures { result ≡ elevator_line_serves lines.now line }
 {
-    match lines.get(line as usize) {
-        Some(l) => Serves {
-            listed: l.listed,
-            serves: l.serves,
-            serves_count: l.serves_count,
-        },
-        None => Serves {
-            listed: false,
-            serves: [0; 64],
-            serves_count: 0,
-        },
-    }
+    lines.get(line as usize).map_or(Serves::NONE, |l| l.serves)
 }

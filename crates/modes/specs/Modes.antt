@@ -22,28 +22,28 @@ order_checks w car =
 abbrev pub in_mode : Car → ServiceMode → Car
 in_mode c mode =
     with_orders c c.phase mode c.enabled c.repositioning c.target_stop c.manual_target_velocity
-    c.destination_queue c.destination_count c.door_command_queue c.command_count
+    c.destination_queue c.door_command_queue
 
 unfoldable pub set_mode : World → ℕ → ServiceMode → Changed
 set_mode w car mode =
-    unless (order_checks w car) (refused w) (accepted (with_car w car (in_mode (car_at w.cars car) mode)))
+    unless (order_checks w car) (refused w) (accepted (with_car w car (in_mode (car_at w.cars.items car) mode)))
 
 -- 7 manual speed
 abbrev pub at_speed : Car → Option Float → Car
 at_speed c speed =
     with_orders c c.phase c.service_mode c.enabled c.repositioning c.target_stop speed
-    c.destination_queue c.destination_count c.door_command_queue c.command_count
+    c.destination_queue c.door_command_queue
 
 unfoldable pub set_manual_speed : World → ℕ → Option Float → Changed
 set_manual_speed w car speed =
-    unless (order_checks w car) (refused w) (accepted (with_car w car (at_speed (car_at w.cars car) speed)))
+    unless (order_checks w car) (refused w) (accepted (with_car w car (at_speed (car_at w.cars.items car) speed)))
 
 -- B enable, disable
 abbrev pub marked : Car → Bool → Car
 marked c enabled =
     with_orders c c.phase c.service_mode enabled c.repositioning c.target_stop c.manual_target_velocity
-    c.destination_queue c.destination_count c.door_command_queue c.command_count
+    c.destination_queue c.door_command_queue
 
 unfoldable pub set_enabled : World → ℕ → Bool → Changed
 set_enabled w car enabled =
-    unless (order_checks w car) (refused w) (accepted (with_car w car (marked (car_at w.cars car) enabled)))
+    unless (order_checks w car) (refused w) (accepted (with_car w car (marked (car_at w.cars.items car) enabled)))

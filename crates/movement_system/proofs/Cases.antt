@@ -20,12 +20,12 @@ module _
     (P : Step → Type 0)
     (w : World)
     (i : ℕ)
-    (rests : P (step_of w (car_at w.cars i) [] not_opened))
-    (passing : is_trip (trip_of (car_at w.cars i)) ≡ true → (trip : Trip) (kind : LineKind) (r : MovementResult) → P (passes w i trip kind r))
-    (arriving : is_trip (trip_of (car_at w.cars i)) ≡ true → (s : ℕ) (kind : LineKind) (r : MovementResult) (lamps : Lamps) → P (arrives w i (GoesTo s) kind r lamps))
-    (repositioned : is_trip (trip_of (car_at w.cars i)) ≡ true → (s : ℕ) (kind : LineKind) (r : MovementResult) (lamps : Lamps) → P (arrives w i (Repositions s) kind r lamps))
+    (rests : P (step_of w (car_at w.cars.items i) [] not_opened))
+    (passing : is_trip (trip_of (car_at w.cars.items i)) ≡ true → (trip : Trip) (kind : LineKind) (r : MovementResult) → P (passes w i trip kind r))
+    (arriving : is_trip (trip_of (car_at w.cars.items i)) ≡ true → (s : ℕ) (kind : LineKind) (r : MovementResult) (lamps : Lamps) → P (arrives w i (GoesTo s) kind r lamps))
+    (repositioned : is_trip (trip_of (car_at w.cars.items i)) ≡ true → (s : ℕ) (kind : LineKind) (r : MovementResult) (lamps : Lamps) → P (arrives w i (Repositions s) kind r lamps))
   where
-    by : (trip : Trip) → is_trip (trip_of (car_at w.cars i)) ≡ is_trip trip → (kind : LineKind) (r : MovementResult) (lamps : Lamps) → P (move_by w i trip kind r lamps)
+    by : (trip : Trip) → is_trip (trip_of (car_at w.cars.items i)) ≡ is_trip trip → (kind : LineKind) (r : MovementResult) (lamps : Lamps) → P (move_by w i trip kind r lamps)
     by Rests e kind r lamps = rests
     by Drives e kind r lamps = passing e Drives kind r
     by (GoesTo s) e kind r lamps = both P r.arrived (arriving e s kind r lamps) (passing e (GoesTo s) kind r)
@@ -33,4 +33,4 @@ module _
 
     pub move_cases : (dt : Float) → P (move_of dt w i)
     unfolding move_of
-    move_cases dt = by (trip_of (car_at w.cars i)) refl _ _ _
+    move_cases dt = by (trip_of (car_at w.cars.items i)) refl _ _ _

@@ -70,25 +70,25 @@ came (Repositions s) kind l c stops dt t = refl
 -- ---- the turn of a car
 
 -- of one at rest
-pub rests : (dt : Float) (w : World) (i : ℕ) (trip : Trip) → trip ≡ trip_of (car_at w.cars i) → is_trip trip ≡ false
-    → move_of dt w i ≡ step_of w (car_at w.cars i) [] not_opened
+pub rests : (dt : Float) (w : World) (i : ℕ) (trip : Trip) → trip ≡ trip_of (car_at w.cars.items i) → is_trip trip ≡ false
+    → move_of dt w i ≡ step_of w (car_at w.cars.items i) [] not_opened
 unfolding move_of
 rests dt w i trip et h = rw (← et, h)
 
 -- by the leader and the remaining work, where they were looked for
 pub moves : (dt : Float) (w : World) (i : ℕ) (trip : Trip) (kind : LineKind) (leader : Option Float) (r : MovementResult) (lamps : Lamps)
-    → trip ≡ trip_of (car_at w.cars i) → kind ≡ (line_of w.lines (car_at w.cars i).line).kind
-    → (is_loop kind ≡ false) ⊎ (leader ≡ leader_of kind w.cars w.car_count i (car_at w.cars i))
-    → r ≡ landing trip kind leader (car_at w.cars i) w.stops dt
-    → ((asks_work trip kind r.arrived ≡ false) × (lamps ≡ lamps_of (car_at w.cars i)))
-    ⊎ ((asks_work trip kind r.arrived ≡ true) × (lamps ≡ work_of trip w.riders w.rider_count (car_at w.cars i) w.stops i))
+    → trip ≡ trip_of (car_at w.cars.items i) → kind ≡ (line_of w.lines.items (car_at w.cars.items i).line).kind
+    → (is_loop kind ≡ false) ⊎ (leader ≡ leader_of kind w.cars i (car_at w.cars.items i))
+    → r ≡ landing trip kind leader (car_at w.cars.items i) w.stops.items dt
+    → ((asks_work trip kind r.arrived ≡ false) × (lamps ≡ lamps_of (car_at w.cars.items i)))
+    ⊎ ((asks_work trip kind r.arrived ≡ true) × (lamps ≡ work_of trip w.riders (car_at w.cars.items i) w.stops.items i))
     → move_of dt w i ≡ move_by w i trip kind r lamps
 unfolding move_of
 moves dt w i trip kind leader r lamps et ek lead er wk =
-    let c = car_at w.cars i in
-    let a : r ≡ landing trip kind (leader_of kind w.cars w.car_count i c) c w.stops dt =
-    er ∙ ⊎_elim (λ z. any_leader trip kind leader _ c w.stops dt z) (λ z. rw z) lead in
-    let b : lamps ≡ cond (asks_work trip kind r.arrived) (work_of trip w.riders w.rider_count c w.stops i) (lamps_of c) =
+    let c = car_at w.cars.items i in
+    let a : r ≡ landing trip kind (leader_of kind w.cars i c) c w.stops.items dt =
+    er ∙ ⊎_elim (λ z. any_leader trip kind leader _ c w.stops.items dt z) (λ z. rw z) lead in
+    let b : lamps ≡ cond (asks_work trip kind r.arrived) (work_of trip w.riders c w.stops.items i) (lamps_of c) =
     ⊎_elim (λ z. z.1 ∙ rw z.0) (λ z. z.1 ∙ rw z.0) wk in
     rw (← et, ← ek, ← a, ← b)
 
@@ -123,14 +123,14 @@ comes_to cs i p v m trip lamps tick =
 
 abbrev pub after : World → List Car → ℕ → Float → World
 after w cars total distance = record {
-  stops = w.stops;
-  stop_count = w.stop_count;
-  lines = w.lines;
-  line_count = w.line_count;
+  stops = w.stops.items;
+  stop_count = w.stops.count;
+  lines = w.lines.items;
+  line_count = w.lines.count;
   cars = cars;
-  car_count = w.car_count;
-  riders = w.riders;
-  rider_count = w.rider_count;
+  car_count = w.cars.count;
+  riders = w.riders.items;
+  rider_count = w.riders.count;
   up_calls = w.up_calls;
   down_calls = w.down_calls;
   started = w.started;
@@ -151,16 +151,16 @@ pub more : {turn : World → ℕ → Step} {world w w' : World} {l l' l'' : List
 unfolding run_to
 more k e f h = record { left = f ∙ rw (add-one, ← k.left, ← e); wrote = rw (add-one, ← k.left) (also k.wrote (rw (← e) at h)) }
 
-pub stops_kept : {turn : World → ℕ → Step} {world w : World} {l l' : List ℕ} {at i to : ℕ} → Moves turn world l at i w l' to → w.stops ≡ world.stops
-stops_kept {turn} {world} {w} {l} {l'} {at} {i} k = ap (λ (z : World). z.stops) k.left ∙ kept turn world (λ (z : World). z.stops) (λ v j s. refl) i
+pub stops_kept : {turn : World → ℕ → Step} {world w : World} {l l' : List ℕ} {at i to : ℕ} → Moves turn world l at i w l' to → w.stops.items ≡ world.stops.items
+stops_kept {turn} {world} {w} {l} {l'} {at} {i} k = ap (λ (z : World). z.stops.items) k.left ∙ kept turn world (λ (z : World). z.stops.items) (λ v j s. refl) i
 
 pub count_kept : {turn : World → ℕ → Step} {world w : World} {l l' : List ℕ} {at i to : ℕ} → Moves turn world l at i w l' to
-    → w.stop_count ≡ world.stop_count
-count_kept {turn} {world} {w} {l} {l'} {at} {i} k = ap (λ (z : World). z.stop_count) k.left ∙ kept turn world (λ (z : World). z.stop_count) (λ v j s. refl) i
+    → w.stops.count ≡ world.stops.count
+count_kept {turn} {world} {w} {l} {l'} {at} {i} k = ap (λ (z : World). z.stops.count) k.left ∙ kept turn world (λ (z : World). z.stops.count) (λ v j s. refl) i
 
 pub cars_kept : {turn : World → ℕ → Step} {world w : World} {l l' : List ℕ} {at i to : ℕ} → Moves turn world l at i w l' to
-    → w.car_count ≡ world.car_count
-cars_kept {turn} {world} {w} {l} {l'} {at} {i} k = ap (λ (z : World). z.car_count) k.left ∙ kept turn world (λ (z : World). z.car_count) (λ v j s. refl) i
+    → w.cars.count ≡ world.cars.count
+cars_kept {turn} {world} {w} {l} {l'} {at} {i} k = ap (λ (z : World). z.cars.count) k.left ∙ kept turn world (λ (z : World). z.cars.count) (λ v j s. refl) i
 
 -- the hall calls that stand, after the doors' turns
 pub calls_kept : {turn : World → ℕ → Step} {world w : World} {l l' : List ℕ} {at i to : ℕ} {opened : List (Option JustOpened)} → Runs turn world l at i w opened l' to
@@ -173,7 +173,7 @@ pub cleared : (opened : List (Option JustOpened)) {a b : Standing} {n m : ℕ} {
 cleared opened e f h = rw (← e, ← f) h
 
 -- all cars' moves, then their doors: what both leave and write
-pub doored_after : (dt : Float) (world : World) {w v : World} {l l' l'' : List ℕ} {at to b : ℕ} → Moves (move_of dt) world l at (min world.car_count 16) w l' to
+pub doored_after : (dt : Float) (world : World) {w v : World} {l l' l'' : List ℕ} {at to b : ℕ} → Moves (move_of dt) world l at (min world.cars.count 16) w l' to
     → v ≡ doors_world w → Wrote l' to (doors_words w) l'' b
     → (v ≡ doors_world (moved world dt).world) × Wrote l at ((moved world dt).words ++ doors_words (moved world dt).world) l'' b
 unfolding moved run_cars
@@ -183,55 +183,55 @@ doored_after dt world k e h = (rw (← k.left) e, rw (← k.left) (also k.wrote 
 
 -- the car goes on
 pub goes_on_lem : (dt : Float) (world w w' : World) (l l' l'' l''' : List ℕ) (at i n to to' : ℕ) (trip : Trip) (kind : LineKind) (leader : Option Float) (r : MovementResult) (lamps : Lamps)
-    (x : Emitted) (m total : ℕ) (distance : Float) → Moves (move_of dt) world l at i w l' to → n ≡ min world.stop_count 64
-    → trip ≡ trip_of (car_at w.cars i) → is_trip trip ≡ true
-    → (((car_at w.cars i).line < 8) × (kind ≡ (line_at w.lines (car_at w.cars i).line).kind)) ⊎ ((8 ≤ (car_at w.cars i).line) × (kind ≡ Linear))
-    → (is_loop kind ≡ false) ⊎ (leader ≡ leader_of kind w.cars w.car_count i (car_at w.cars i))
-    → r ≡ landing trip kind leader (car_at w.cars i) w.stops dt
-    → ((asks_work trip kind r.arrived ≡ false) × (lamps ≡ lamps_of (car_at w.cars i)))
-    ⊎ ((asks_work trip kind r.arrived ≡ true) × (lamps ≡ work_of trip w.riders w.rider_count (car_at w.cars i) w.stops i))
-    → Tells (words_by trip i kind w.stops n (car_at w.cars i) r lamps) (moves_by trip kind w.stops n (car_at w.cars i) r) l' to l'' x
-    → m ≡ plus (car_at w.cars i).move_count x.count → total ≡ plus w.total_moves x.count
-    → distance ≡ distance_by trip kind w.reposition_distance (car_at w.cars i).motion.position r.position
-    → r.arrived ≡ false → w' ≡ after w (thrice w.cars i r.position r.velocity m) total distance → l''' ≡ l'' → to' ≡ x.at
+    (x : Emitted) (m total : ℕ) (distance : Float) → Moves (move_of dt) world l at i w l' to → n ≡ min world.stops.count 64
+    → trip ≡ trip_of (car_at w.cars.items i) → is_trip trip ≡ true
+    → (((car_at w.cars.items i).line < 8) × (kind ≡ (line_at w.lines.items (car_at w.cars.items i).line).kind)) ⊎ ((8 ≤ (car_at w.cars.items i).line) × (kind ≡ Linear))
+    → (is_loop kind ≡ false) ⊎ (leader ≡ leader_of kind w.cars i (car_at w.cars.items i))
+    → r ≡ landing trip kind leader (car_at w.cars.items i) w.stops.items dt
+    → ((asks_work trip kind r.arrived ≡ false) × (lamps ≡ lamps_of (car_at w.cars.items i)))
+    ⊎ ((asks_work trip kind r.arrived ≡ true) × (lamps ≡ work_of trip w.riders (car_at w.cars.items i) w.stops.items i))
+    → Tells (words_by trip i kind w.stops.items n (car_at w.cars.items i) r lamps) (moves_by trip kind w.stops.items n (car_at w.cars.items i) r) l' to l'' x
+    → m ≡ plus (car_at w.cars.items i).move_count x.count → total ≡ plus w.total_moves x.count
+    → distance ≡ distance_by trip kind w.reposition_distance (car_at w.cars.items i).motion.position r.position
+    → r.arrived ≡ false → w' ≡ after w (thrice w.cars.items i r.position r.velocity m) total distance → l''' ≡ l'' → to' ≡ x.at
     → Moves (move_of dt) world l at (i + 1) w' l''' to'
 goes_on_lem dt world w w' l l' l'' l''' at i n to to' trip kind leader r lamps x m total distance k en et t ek lead er wk told em eo ed h ew el eto =
-    let f : comes trip r.arrived ≡ false = rw er (came trip kind leader (car_at w.cars i) w.stops dt t) ∙ h in
+    let f : comes trip r.arrived ≡ false = rw er (came trip kind leader (car_at w.cars.items i) w.stops.items dt t) ∙ h in
     let e : move_of dt w i ≡ passes w i trip kind r =
-    moves dt w i trip kind leader r lamps et (kind_of_lem w.lines (car_at w.cars i).line kind ek) lead er wk ∙ rw (t, f) in
-    let n' : n ≡ min w.stop_count 64 = en ∙ rw (count_kept k) in
+    moves dt w i trip kind leader r lamps et (kind_of_lem w.lines.items (car_at w.cars.items i).line kind ek) lead er wk ∙ rw (t, f) in
+    let n' : n ≡ min w.stops.count 64 = en ∙ rw (count_kept k) in
     let tells = rw (n', f) at told in
     let left : w' ≡ stepped w i (passes w i trip kind r) =
-    ew ∙ ap (λ (z : List Car). after w z total distance) (lands w.cars i r.position r.velocity m) ∙ rw (em, eo, ed, tells.count) in
+    ew ∙ ap (λ (z : List Car). after w z total distance) (lands w.cars.items i r.position r.velocity m) ∙ rw (em, eo, ed, tells.count) in
     more k e left (rw (el, eto) tells.wrote)
 
 -- it comes to its stop
 pub comes_in : (dt : Float) (world w w' : World) (l l' l'' l''' : List ℕ) (at i n to to' : ℕ) (trip : Trip) (kind : LineKind) (leader : Option Float) (r : MovementResult) (lamps : Lamps)
-    (x : Emitted) (m total : ℕ) (distance : Float) (c : Car) → Moves (move_of dt) world l at i w l' to → n ≡ min world.stop_count 64
-    → trip ≡ trip_of (car_at w.cars i) → is_trip trip ≡ true
-    → (((car_at w.cars i).line < 8) × (kind ≡ (line_at w.lines (car_at w.cars i).line).kind)) ⊎ ((8 ≤ (car_at w.cars i).line) × (kind ≡ Linear))
-    → (is_loop kind ≡ false) ⊎ (leader ≡ leader_of kind w.cars w.car_count i (car_at w.cars i))
-    → r ≡ landing trip kind leader (car_at w.cars i) w.stops dt
-    → ((asks_work trip kind r.arrived ≡ false) × (lamps ≡ lamps_of (car_at w.cars i)))
-    ⊎ ((asks_work trip kind r.arrived ≡ true) × (lamps ≡ work_of trip w.riders w.rider_count (car_at w.cars i) w.stops i))
-    → Tells (words_by trip i kind w.stops n (car_at w.cars i) r lamps) (moves_by trip kind w.stops n (car_at w.cars i) r) l' to l'' x
-    → m ≡ plus (car_at w.cars i).move_count x.count → total ≡ plus w.total_moves x.count
-    → distance ≡ distance_by trip kind w.reposition_distance (car_at w.cars i).motion.position r.position
-    → r.arrived ≡ true → c ≡ come trip (car_at (thrice w.cars i r.position r.velocity m) i) lamps w.ticks
-    → w' ≡ after w (set (thrice w.cars i r.position r.velocity m) i c) total distance → l''' ≡ l'' → to' ≡ x.at
+    (x : Emitted) (m total : ℕ) (distance : Float) (c : Car) → Moves (move_of dt) world l at i w l' to → n ≡ min world.stops.count 64
+    → trip ≡ trip_of (car_at w.cars.items i) → is_trip trip ≡ true
+    → (((car_at w.cars.items i).line < 8) × (kind ≡ (line_at w.lines.items (car_at w.cars.items i).line).kind)) ⊎ ((8 ≤ (car_at w.cars.items i).line) × (kind ≡ Linear))
+    → (is_loop kind ≡ false) ⊎ (leader ≡ leader_of kind w.cars i (car_at w.cars.items i))
+    → r ≡ landing trip kind leader (car_at w.cars.items i) w.stops.items dt
+    → ((asks_work trip kind r.arrived ≡ false) × (lamps ≡ lamps_of (car_at w.cars.items i)))
+    ⊎ ((asks_work trip kind r.arrived ≡ true) × (lamps ≡ work_of trip w.riders (car_at w.cars.items i) w.stops.items i))
+    → Tells (words_by trip i kind w.stops.items n (car_at w.cars.items i) r lamps) (moves_by trip kind w.stops.items n (car_at w.cars.items i) r) l' to l'' x
+    → m ≡ plus (car_at w.cars.items i).move_count x.count → total ≡ plus w.total_moves x.count
+    → distance ≡ distance_by trip kind w.reposition_distance (car_at w.cars.items i).motion.position r.position
+    → r.arrived ≡ true → c ≡ come trip (car_at (thrice w.cars.items i r.position r.velocity m) i) lamps w.ticks
+    → w' ≡ after w (set (thrice w.cars.items i r.position r.velocity m) i c) total distance → l''' ≡ l'' → to' ≡ x.at
     → Moves (move_of dt) world l at (i + 1) w' l''' to'
 comes_in dt world w w' l l' l'' l''' at i n to to' trip kind leader r lamps x m total distance c k en et t ek lead er wk told em eo ed h ec ew el eto =
-    let f : comes trip r.arrived ≡ true = rw er (came trip kind leader (car_at w.cars i) w.stops dt t) ∙ h in
+    let f : comes trip r.arrived ≡ true = rw er (came trip kind leader (car_at w.cars.items i) w.stops.items dt t) ∙ h in
     let e : move_of dt w i ≡ arrives w i trip kind r lamps =
-    moves dt w i trip kind leader r lamps et (kind_of_lem w.lines (car_at w.cars i).line kind ek) lead er wk ∙ rw (t, f) in
+    moves dt w i trip kind leader r lamps et (kind_of_lem w.lines.items (car_at w.cars.items i).line kind ek) lead er wk ∙ rw (t, f) in
     let tells = rw f at told in
     let left : w' ≡ stepped w i (arrives w i trip kind r lamps) =
     ew ∙ ap (λ (z : List Car). after w z total distance)
-    (ap (λ (z : Car). set (thrice w.cars i r.position r.velocity m) i z) ec ∙ comes_to w.cars i r.position r.velocity m trip lamps w.ticks)
+    (ap (λ (z : Car). set (thrice w.cars.items i r.position r.velocity m) i z) ec ∙ comes_to w.cars.items i r.position r.velocity m trip lamps w.ticks)
     ∙ rw (em, eo, ed, tells.count) in
     more k e left (rw (el, eto) tells.wrote)
 
 -- it rests
 pub stays : (dt : Float) (world w w' : World) (l l' l''' : List ℕ) (at i to to' : ℕ) (trip : Trip) → Moves (move_of dt) world l at i w l' to
-    → trip ≡ trip_of (car_at w.cars i) → is_trip trip ≡ false → w' ≡ w → l''' ≡ l' → to' ≡ to → Moves (move_of dt) world l at (i + 1) w' l''' to'
+    → trip ≡ trip_of (car_at w.cars.items i) → is_trip trip ≡ false → w' ≡ w → l''' ≡ l' → to' ≡ to → Moves (move_of dt) world l at (i + 1) w' l''' to'
 stays dt world w w' l l' l''' at i to to' trip k et h ew el eto = more k (rests dt w i trip et h) (ew ∙ stepped_same w i) (rw (el, eto) wrote_none)

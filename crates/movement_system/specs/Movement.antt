@@ -25,8 +25,8 @@ passed_by trip kind stops n old r = passed (swept trip kind old r) stops (sorted
 -- run, `if !result.arrived`, and tick_manual: the stops passed are the moves
 abbrev pub passes : World → ℕ → Trip → LineKind → MovementResult → Step
 passes w i trip kind r =
-    let c = car_at w.cars i in
-    let ss = passed_by trip kind w.stops (min w.stop_count 64) c.motion.position r in
+    let c = car_at w.cars.items i in
+    let ss = passed_by trip kind w.stops.items (min w.stops.count 64) c.motion.position r in
     record {
       car = with_moved c r.position r.velocity (length ss);
       words = passing_words i (moving_up kind c.motion.position r.position) ss;
@@ -38,7 +38,7 @@ passes w i trip kind r =
 -- run, `if result.arrived`: "Arrival is a floor crossing too", one move
 abbrev pub arrives : World → ℕ → Trip → LineKind → MovementResult → Lamps → Step
 arrives w i trip kind r lamps =
-    let c = car_at w.cars i in
+    let c = car_at w.cars.items i in
     record {
       car = come trip (with_moved c r.position r.velocity 1) lamps w.ticks;
       words = coming_words trip i (lamps_of c) lamps;
@@ -53,18 +53,18 @@ move_by w i trip kind r lamps =
     cond
     (is_trip trip)
     (cond (comes trip r.arrived) (arrives w i trip kind r lamps) (passes w i trip kind r))
-    (step_of w (car_at w.cars i) [] not_opened)
+    (step_of w (car_at w.cars.items i) [] not_opened)
 
 -- ---- run
 
 -- for one car: its first tests, its landing, and its lamps should it arrive
 unfoldable pub move_of : Float → World → ℕ → Step
 move_of dt w i =
-    let c = car_at w.cars i in
+    let c = car_at w.cars.items i in
     let trip = trip_of c in
-    let kind = (line_of w.lines c.line).kind in
-    let r = landing trip kind (leader_of kind w.cars w.car_count i c) c w.stops dt in
-    let lamps = cond (asks_work trip kind r.arrived) (work_of trip w.riders w.rider_count c w.stops i) (lamps_of c) in
+    let kind = (line_of w.lines.items c.line).kind in
+    let r = landing trip kind (leader_of kind w.cars i c) c w.stops.items dt in
+    let lamps = cond (asks_work trip kind r.arrived) (work_of trip w.riders c w.stops.items i) (lamps_of c) in
     move_by w i trip kind r lamps
 
 unfoldable pub moved : World → Float → Run

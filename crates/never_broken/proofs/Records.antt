@@ -109,7 +109,7 @@ module _ (w : World) (h : Sound w) (log : List ℕ) (used : ℕ) where
   unfolding load_line line_broken any_to
   line_keeps number kind listed count serves =
       unless_keeps (line_checks w number row) _ refl
-      (λ q. let n : (number < 8) × (number ≡ w.line_count) = is_next 8 w.line_count number q.1.0 in
+      (λ q. let n : (number < 8) × (number ≡ w.lines.count) = is_next 8 w.lines.count number q.1.0 in
       record {
         counters = h.counters;
         shape =
@@ -119,10 +119,10 @@ module _ (w : World) (h : Sound w) (log : List ℕ) (used : ℕ) where
                     low = h.shape.plan.low;
                     few = omega (arith, n.0);
                     each =
-                        table_set (λ (l : Line). line_broken w.stop_count l ≡ false) no_line row refl q.1.1.0 w.lines number w.line_count (number + 1)
+                        table_set (λ (l : Line). line_broken w.stops.count l ≡ false) no_line row refl q.1.1.0 w.lines.items number w.lines.count (number + 1)
                         h.shape.plan.each (λ j m e. omega (arith, e, n.1));
                   };
-              cars = cars_stay w.line_count (number + 1) w.stop_count w.stop_count (omega (arith, n.1)) (omega arith) h.shape.cars;
+              cars = cars_stay w.lines.count (number + 1) w.stops.count w.stops.count (omega (arith, n.1)) (omega arith) h.shape.cars;
               riders = h.shape.riders;
               calls = h.shape.calls;
             };
@@ -135,9 +135,9 @@ module _ (w : World) (h : Sound w) (log : List ℕ) (used : ℕ) where
   unfolding load_stop
   stop_keeps number position =
       unless_keeps (stop_checks w number) _ refl
-      (λ q. let n : (number < 64) × (number ≡ w.stop_count) = is_next 64 w.stop_count number q.1.0 in
-      let more : w.stop_count ≤ number + 1 = omega (arith, n.1) in
-      let room : 2 ^ w.stop_count ≤ 2 ^ (number + 1) = pow_mono more in
+      (λ q. let n : (number < 64) × (number ≡ w.stops.count) = is_next 64 w.stops.count number q.1.0 in
+      let more : w.stops.count ≤ number + 1 = omega (arith, n.1) in
+      let room : 2 ^ w.stops.count ≤ 2 ^ (number + 1) = pow_mono more in
       record {
         counters = h.counters;
         shape =
@@ -146,10 +146,10 @@ module _ (w : World) (h : Sound w) (log : List ℕ) (used : ℕ) where
                   record {
                     low = omega (arith, n.0);
                     few = h.shape.plan.few;
-                    each = λ i l. line_stays w.stop_count (number + 1) more (line_at w.lines i) (h.shape.plan.each i l);
+                    each = λ i l. line_stays w.stops.count (number + 1) more (line_at w.lines.items i) (h.shape.plan.each i l);
                   };
-              cars = cars_stay w.line_count w.line_count w.stop_count (number + 1) (omega arith) more h.shape.cars;
-              riders = riders_stay w.stop_count (number + 1) w.car_count w.car_count more (omega arith) h.shape.riders;
+              cars = cars_stay w.lines.count w.lines.count w.stops.count (number + 1) (omega arith) more h.shape.cars;
+              riders = riders_stay w.stops.count (number + 1) w.cars.count w.cars.count more (omega arith) h.shape.riders;
               calls = record { up = omega (arith, h.shape.calls.up, room); down = omega (arith, h.shape.calls.down, room) };
             };
       })
@@ -158,17 +158,17 @@ module _ (w : World) (h : Sound w) (log : List ℕ) (used : ℕ) where
   unfolding load_car
   car_keeps number plan =
       unless_keeps (car_checks w number plan) _ refl
-      (λ q. let n : (number < 16) × (number ≡ w.car_count) = is_next 16 w.car_count number q.1.0 in
-      let fits : (j : ℕ) → j < number + 1 → (j ≡ number → ⊥) → j < w.car_count = λ j m e. omega (arith, e, n.1) in
+      (λ q. let n : (number < 16) × (number ≡ w.cars.count) = is_next 16 w.cars.count number q.1.0 in
+      let fits : (j : ℕ) → j < number + 1 → (j ≡ number → ⊥) → j < w.cars.count = λ j m e. omega (arith, e, n.1) in
       record {
-        counters = counters_set new w.cars number w.car_count (number + 1) fits w.ticks w.total_moves (omega arith) h.counters;
+        counters = counters_set new w.cars.items number w.cars.count (number + 1) fits w.ticks w.total_moves (omega arith) h.counters;
         shape =
             record {
               plan = h.shape.plan;
               cars =
-                  cars_set new w.cars number w.car_count (number + 1) fits w.line_count w.stop_count (omega (arith, n.0))
-                  (new_in (leb-false w.line_count plan.line q.1.1.0)) h.shape.cars;
-              riders = riders_stay w.stop_count w.stop_count w.car_count (number + 1) (omega arith) (omega (arith, n.1)) h.shape.riders;
+                  cars_set new w.cars.items number w.cars.count (number + 1) fits w.lines.count w.stops.count (omega (arith, n.0))
+                  (new_in (leb-false w.lines.count plan.line q.1.1.0)) h.shape.cars;
+              riders = riders_stay w.stops.count w.stops.count w.cars.count (number + 1) (omega arith) (omega (arith, n.1)) h.shape.riders;
               calls = h.shape.calls;
             };
       })
@@ -176,7 +176,7 @@ module _ (w : World) (h : Sound w) (log : List ℕ) (used : ℕ) where
       new : Car
       new = new_car plan
 
-      new_in : plan.line < w.line_count → CarIn w.line_count w.stop_count new
+      new_in : plan.line < w.lines.count → CarIn w.lines.count w.stops.count new
       new_in l =
           record { commands = omega arith; line = l; phase = refl; target = refl; queue = record { few = omega arith; loaded = λ k m. absurd (omega arith) } }
 
@@ -184,7 +184,7 @@ module _ (w : World) (h : Sound w) (log : List ℕ) (used : ℕ) where
   unfolding load_rider rider_broken
   rider_keeps number rider =
       unless_keeps (rider_checks w number rider) _ refl
-      (λ q. let n : number < 128 = leb-false 128 number (or_left (leb 128 number) (ltb w.rider_count number) q.0) in
+      (λ q. let n : number < 128 = leb-false 128 number (or_left (leb 128 number) (ltb w.riders.count number) q.0) in
       record {
         counters = h.counters;
         shape =
@@ -193,19 +193,19 @@ module _ (w : World) (h : Sound w) (log : List ℕ) (used : ℕ) where
               cars = h.shape.cars;
               riders =
                   record {
-                    few = both (λ (x : ℕ). x ≤ 128) (eqb number w.rider_count) (omega (arith, n)) h.shape.riders.few;
+                    few = both (λ (x : ℕ). x ≤ 128) (eqb number w.riders.count) (omega (arith, n)) h.shape.riders.few;
                     each =
-                        table_set (λ (r : Rider). rider_broken w.stop_count w.car_count r ≡ false) no_rider rider refl q.1.0 w.riders number
-                        w.rider_count (count_with w.rider_count number) h.shape.riders.each old;
+                        table_set (λ (r : Rider). rider_broken w.stops.count w.cars.count r ≡ false) no_rider rider refl q.1.0 w.riders.items number
+                        w.riders.count (count_with w.riders.count number) h.shape.riders.each old;
                   };
               calls = h.shape.calls;
             };
       })
     where
-      old : (j : ℕ) → j < count_with w.rider_count number → (j ≡ number → ⊥) → j < w.rider_count
+      old : (j : ℕ) → j < count_with w.riders.count number → (j ≡ number → ⊥) → j < w.riders.count
       old j =
-          cases (λ (x : ℕ). j < x → (j ≡ number → ⊥) → j < w.rider_count) (eqb number w.rider_count)
-          (λ e m d. omega (arith, eqb-true number w.rider_count e, d)) (λ e m d. m)
+          cases (λ (x : ℕ). j < x → (j ≡ number → ⊥) → j < w.riders.count) (eqb number w.riders.count)
+          (λ e m d. omega (arith, eqb-true number w.riders.count e, d)) (λ e m d. m)
 
   start_keeps : Keeps (start w)
   unfolding start
@@ -217,8 +217,8 @@ module _ (w : World) (h : Sound w) (log : List ℕ) (used : ℕ) where
   unfolding press_hall_call
   press_keeps stop down =
       unless_keeps (call_checks w stop) _ refl
-      (λ q. let press : (calls : ℕ) → calls < 2 ^ w.stop_count → pressed calls stop < 2 ^ w.stop_count =
-      λ calls. press_stays w.stop_count calls stop (leb-false w.stop_count stop q.1.0) in
+      (λ q. let press : (calls : ℕ) → calls < 2 ^ w.stops.count → pressed calls stop < 2 ^ w.stops.count =
+      λ calls. press_stays w.stops.count calls stop (leb-false w.stops.count stop q.1.0) in
       record {
         counters = h.counters;
         shape =
@@ -228,24 +228,24 @@ module _ (w : World) (h : Sound w) (log : List ℕ) (used : ℕ) where
               riders = h.shape.riders;
               calls =
                   record {
-                    up = both (λ (x : ℕ). x < 2 ^ w.stop_count) down h.shape.calls.up (press w.up_calls h.shape.calls.up);
-                    down = both (λ (x : ℕ). x < 2 ^ w.stop_count) down (press w.down_calls h.shape.calls.down) h.shape.calls.down;
+                    up = both (λ (x : ℕ). x < 2 ^ w.stops.count) down h.shape.calls.up (press w.up_calls h.shape.calls.up);
+                    down = both (λ (x : ℕ). x < 2 ^ w.stops.count) down (press w.down_calls h.shape.calls.down) h.shape.calls.down;
                   };
             };
       })
 
   -- an order to car i, by the car that it makes of it
-  order_keeps : (i : ℕ) (c : Car) → no_such_car w i ≡ false → c.move_count ≡ (car_at w.cars i).move_count
-      → (CarIn w.line_count w.stop_count (car_at w.cars i) → CarIn w.line_count w.stop_count c) → Sound (with_car w i c)
+  order_keeps : (i : ℕ) (c : Car) → no_such_car w i ≡ false → c.move_count ≡ (car_at w.cars.items i).move_count
+      → (CarIn w.lines.count w.stops.count (car_at w.cars.items i) → CarIn w.lines.count w.stops.count c) → Sound (with_car w i c)
   order_keeps i c loaded same f =
-      let l : i < w.car_count = leb-false w.car_count i (or_right (leb 16 i) (unloaded w.car_count i) loaded) in
+      let l : i < w.cars.count = leb-false w.cars.count i (or_right (leb 16 i) (unloaded w.cars.count i) loaded) in
       record {
-        counters = counters_set c w.cars i w.car_count w.car_count (λ j m e. m) w.ticks w.total_moves (omega (arith, same, h.counters.each i l)) h.counters;
+        counters = counters_set c w.cars.items i w.cars.count w.cars.count (λ j m e. m) w.ticks w.total_moves (omega (arith, same, h.counters.each i l)) h.counters;
         shape =
             record {
               plan = h.shape.plan;
               cars =
-                  cars_set c w.cars i w.car_count w.car_count (λ j m e. m) w.line_count w.stop_count h.shape.cars.few
+                  cars_set c w.cars.items i w.cars.count w.cars.count (λ j m e. m) w.lines.count w.stops.count h.shape.cars.few
                   (f (h.shape.cars.each i l)) h.shape.cars;
               riders = h.shape.riders;
               calls = h.shape.calls;
@@ -256,48 +256,48 @@ module _ (w : World) (h : Sound w) (log : List ℕ) (used : ℕ) where
   unfolding set_mode
   mode_keeps car mode =
       unless_keeps (order_checks w car) _ refl
-      (λ q. order_keeps car (in_mode (car_at w.cars car) mode) q.1.0 refl
+      (λ q. order_keeps car (in_mode (car_at w.cars.items car) mode) q.1.0 refl
       (λ c. record { commands = c.commands; line = c.line; phase = c.phase; target = c.target; queue = c.queue }))
 
   speed_keeps : (car : ℕ) (speed : Option Float) → Keeps (set_manual_speed w car speed)
   unfolding set_manual_speed
   speed_keeps car speed =
       unless_keeps (order_checks w car) _ refl
-      (λ q. order_keeps car (at_speed (car_at w.cars car) speed) q.1.0 refl
+      (λ q. order_keeps car (at_speed (car_at w.cars.items car) speed) q.1.0 refl
       (λ c. record { commands = c.commands; line = c.line; phase = c.phase; target = c.target; queue = c.queue }))
 
   enable_keeps : (car : ℕ) (enabled : Bool) → Keeps (set_enabled w car enabled)
   unfolding set_enabled
   enable_keeps car enabled =
       unless_keeps (order_checks w car) _ refl
-      (λ q. order_keeps car (marked (car_at w.cars car) enabled) q.1.0 refl
+      (λ q. order_keeps car (marked (car_at w.cars.items car) enabled) q.1.0 refl
       (λ c. record { commands = c.commands; line = c.line; phase = c.phase; target = c.target; queue = c.queue }))
 
   command_keeps : (car : ℕ) (command : DoorCommand) → Keeps (queue_command w car command)
   unfolding queue_command
   command_keeps car command =
       unless_keeps (command_checks w car) _ refl
-      (λ q. let few : (car_at w.cars car).command_count < 8 = leb-false 8 (car_at w.cars car).command_count q.1.1.0 in
-      order_keeps car (commanded (car_at w.cars car) command) q.1.0 refl
+      (λ q. let few : (car_at w.cars.items car).door_command_queue.count < 8 = leb-false 8 (car_at w.cars.items car).door_command_queue.count q.1.1.0 in
+      order_keeps car (commanded (car_at w.cars.items car) command) q.1.0 refl
       (λ c. record { commands = omega (arith, few); line = c.line; phase = c.phase; target = c.target; queue = c.queue }))
 
   send_keeps : (car stop : ℕ) (reposition : Bool) → Keeps (send w car stop reposition)
   unfolding send
   send_keeps car stop reposition =
       unless_keeps (send_checks w car stop) _ refl
-      (λ q. let loaded : unloaded w.stop_count stop ≡ false = or_right (no_such_car w car) (unloaded w.stop_count stop) q.1.0 in
-      let phase : phase_unloaded w.stop_count (cond reposition (Repositioning stop) (MovingToStop stop)) ≡ false =
-      both (λ (p : ElevatorPhase). phase_unloaded w.stop_count p ≡ false) reposition loaded loaded in
-      order_keeps car (sent (car_at w.cars car) stop reposition) (or_left (no_such_car w car) (unloaded w.stop_count stop) q.1.0) refl
+      (λ q. let loaded : unloaded w.stops.count stop ≡ false = or_right (no_such_car w car) (unloaded w.stops.count stop) q.1.0 in
+      let phase : phase_unloaded w.stops.count (cond reposition (Repositioning stop) (MovingToStop stop)) ≡ false =
+      both (λ (p : ElevatorPhase). phase_unloaded w.stops.count p ≡ false) reposition loaded loaded in
+      order_keeps car (sent (car_at w.cars.items car) stop reposition) (or_left (no_such_car w car) (unloaded w.stops.count stop) q.1.0) refl
       (λ c. record { commands = c.commands; line = c.line; phase = phase; target = loaded; queue = c.queue }))
 
   destination_keeps : (car stop : ℕ) → Keeps (push_destination w car stop)
   unfolding push_destination
   destination_keeps car stop =
       unless_keeps (destination_checks w car stop) _ refl
-      (λ q. let few : (car_at w.cars car).destination_count < 8 = leb-false 8 (car_at w.cars car).destination_count q.1.1.0 in
-      let loaded : unloaded w.stop_count stop ≡ false = or_right (no_such_car w car) (unloaded w.stop_count stop) q.1.0 in
-      order_keeps car (destined (car_at w.cars car) stop) (or_left (no_such_car w car) (unloaded w.stop_count stop) q.1.0) refl
+      (λ q. let few : (car_at w.cars.items car).destination_queue.count < 8 = leb-false 8 (car_at w.cars.items car).destination_queue.count q.1.1.0 in
+      let loaded : unloaded w.stops.count stop ≡ false = or_right (no_such_car w car) (unloaded w.stops.count stop) q.1.0 in
+      order_keeps car (destined (car_at w.cars.items car) stop) (or_left (no_such_car w car) (unloaded w.stops.count stop) q.1.0) refl
       (λ c. record { commands = c.commands; line = c.line; phase = c.phase; target = c.target; queue = append_in stop few loaded c.queue }))
 
   -- ---- the tick, and every record

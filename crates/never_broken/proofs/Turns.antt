@@ -43,11 +43,11 @@ pub record QueueIn (stops : ℕ) (queue : List ℕ) (count : ℕ) : Type 0 where
   pub loaded : (k : ℕ) → k < count → unloaded stops (get_or queue k 0) ≡ false
 
 pub record CarIn (lines stops : ℕ) (c : Car) : Type 0 where
-  pub commands : c.command_count ≤ 8
+  pub commands : c.door_command_queue.count ≤ 8
   pub line : c.line < lines
   pub phase : phase_unloaded stops c.phase ≡ false
   pub target : stop_unloaded stops c.target_stop ≡ false
-  pub queue : QueueIn stops c.destination_queue c.destination_count
+  pub queue : QueueIn stops c.destination_queue
 
 pub car_in_stays : (l m a b : ℕ) → l ≤ m → a ≤ b → (c : Car) → CarIn l a c → CarIn m b c
 car_in_stays l m a b lines stops c h = record {
@@ -55,7 +55,7 @@ car_in_stays l m a b lines stops c h = record {
   line = omega (arith, h.line);
   phase = phase_stays a b stops c.phase h.phase;
   target = stop_stays a b stops c.target_stop h.target;
-  queue = record { few = h.queue.few; loaded = λ k q. still_loaded a b stops (get_or c.destination_queue k 0) (h.queue.loaded k q) };
+  queue = record { few = h.queue.few; loaded = λ k q. still_loaded a b stops (get_or c.destination_queue.items k 0) (h.queue.loaded k q) };
 }
 
 -- ---- movement
@@ -74,17 +74,17 @@ module _ (lines stops : ℕ) (c : Car) (h : CarIn lines stops c) where
   pop_in : (s : ℕ) → QueueIn stops (popped c s).stops (popped c s).count
   unfolding popped
   pop_in s =
-      both (λ (q : Queue). QueueIn stops q.stops q.count) (ltb 0 c.destination_count && eqb (get_or c.destination_queue 0 0) s)
-      (record { few = omega (arith, h.queue.few); loaded = λ k l. rw (shifted_at c.destination_queue k (omega (arith, h.queue.few))) (h.queue.loaded (suc k) (omega arith)) })
+      both (λ (q : Queue). QueueIn stops q.stops q.count) (ltb 0 c.destination_queue.count && eqb (get_or c.destination_queue.items 0 0) s)
+      (record { few = omega (arith, h.queue.few); loaded = λ k l. rw (shifted_at c.destination_queue.items k (omega (arith, h.queue.few))) (h.queue.loaded (suc k) (omega arith)) })
       h.queue
 
-pub move_in : (lines stops : ℕ) (dt : Float) (w : World) (i : ℕ) → CarIn lines stops (car_at w.cars i) → CarIn lines stops (move_of dt w i).car
+pub move_in : (lines stops : ℕ) (dt : Float) (w : World) (i : ℕ) → CarIn lines stops (car_at w.cars.items i) → CarIn lines stops (move_of dt w i).car
 unfolding popped
 move_in lines stops dt w i h =
     move_cases (λ s. CarIn lines stops s.car) w i h
     (λ e trip kind r. record { commands = h.commands; line = h.line; phase = h.phase; target = h.target; queue = h.queue })
-    (λ e s kind r lamps. record { commands = h.commands; line = h.line; phase = refl; target = h.target; queue = pop_in lines stops (car_at w.cars i) h s })
-    (λ e s kind r lamps. record { commands = h.commands; line = h.line; phase = refl; target = refl; queue = pop_in lines stops (car_at w.cars i) h s }) dt
+    (λ e s kind r lamps. record { commands = h.commands; line = h.line; phase = refl; target = h.target; queue = pop_in lines stops (car_at w.cars.items i) h s })
+    (λ e s kind r lamps. record { commands = h.commands; line = h.line; phase = refl; target = refl; queue = pop_in lines stops (car_at w.cars.items i) h s }) dt
 
 -- ---- the loop's next stop is one of the line's list
 

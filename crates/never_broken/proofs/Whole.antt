@@ -18,23 +18,23 @@ car_whole : (lines stops : ℕ) (c : Car) → CarIn lines stops c → c.move_cou
 unfolding car_broken
 car_whole lines stops c h low =
     rw (
-      le-ltb 8 c.destination_count h.queue.few,
-      le-ltb 8 c.command_count h.commands,
+      le-ltb 8 c.destination_queue.count h.queue.few,
+      le-ltb 8 c.door_command_queue.count h.commands,
       lt-leb (2 ^ 48) c.move_count low,
       lt-leb lines c.line h.line,
       h.phase,
       h.target,
     )
-    (none_to (λ k. unloaded stops (get_or c.destination_queue k 0)) c.destination_count h.queue.loaded)
+    (none_to (λ k. unloaded stops (get_or c.destination_queue.items k 0)) c.destination_queue.count h.queue.loaded)
 
 counts_whole : (w : World) → Sound w → counts_broken w ≡ false
 unfolding counts_broken
 counts_whole w h =
     rw (
-      le-ltb 64 w.stop_count h.shape.plan.low,
-      le-ltb 8 w.line_count h.shape.plan.few,
-      le-ltb 16 w.car_count h.shape.cars.few,
-      le-ltb 128 w.rider_count h.shape.riders.few,
+      le-ltb 64 w.stops.count h.shape.plan.low,
+      le-ltb 8 w.lines.count h.shape.plan.few,
+      le-ltb 16 w.cars.count h.shape.cars.few,
+      le-ltb 128 w.riders.count h.shape.riders.few,
       le-ltb (2 ^ 28) w.ticks h.counters.time,
       lt-leb (2 ^ 48) w.total_moves (omega (arith, h.counters.sum, h.counters.time)),
     )
@@ -44,13 +44,13 @@ unfolding broken
 whole w h =
     rw (
       counts_whole w h,
-      none_to (λ i. line_broken w.stop_count (line_at w.lines i)) w.line_count h.shape.plan.each,
-      none_to (λ i. car_broken w.line_count w.stop_count (car_at w.cars i)) w.car_count cars,
-      none_to (λ i. rider_broken w.stop_count w.car_count (rider_at w.riders i)) w.rider_count h.shape.riders.each,
-      lt-leb (2 ^ w.stop_count) w.up_calls h.shape.calls.up,
-      lt-leb (2 ^ w.stop_count) w.down_calls h.shape.calls.down,
+      none_to (λ i. line_broken w.stops.count (line_at w.lines.items i)) w.lines.count h.shape.plan.each,
+      none_to (λ i. car_broken w.lines.count w.stops.count (car_at w.cars.items i)) w.cars.count cars,
+      none_to (λ i. rider_broken w.stops.count w.cars.count (rider_at w.riders.items i)) w.riders.count h.shape.riders.each,
+      lt-leb (2 ^ w.stops.count) w.up_calls h.shape.calls.up,
+      lt-leb (2 ^ w.stops.count) w.down_calls h.shape.calls.down,
     )
   where
-    cars : (i : ℕ) → i < w.car_count → car_broken w.line_count w.stop_count (car_at w.cars i) ≡ false
+    cars : (i : ℕ) → i < w.cars.count → car_broken w.lines.count w.stops.count (car_at w.cars.items i) ≡ false
     cars i l =
-        car_whole w.line_count w.stop_count (car_at w.cars i) (h.shape.cars.each i l) (omega (arith, h.counters.each i l, h.counters.time))
+        car_whole w.lines.count w.stops.count (car_at w.cars.items i) (h.shape.cars.each i l) (omega (arith, h.counters.each i l, h.counters.time))

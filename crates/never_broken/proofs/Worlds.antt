@@ -56,7 +56,7 @@ pub record Parts (stopCount lineCount carCount riderCount ups downs : ℕ) (rows
 
 abbrev pub Shape : World → Type 0
 Shape w =
-    Parts w.stop_count w.line_count w.car_count w.rider_count w.up_calls w.down_calls w.lines w.cars w.riders
+    Parts w.stops.count w.lines.count w.cars.count w.riders.count w.up_calls w.down_calls w.lines.items w.cars.items w.riders.items
 
 -- a tick has at most 64 moves a car, and there are 2 to the 28 of them
 pub record Counters (ticks total cars : ℕ) (table : List Car) : Type 0 where
@@ -66,7 +66,7 @@ pub record Counters (ticks total cars : ℕ) (table : List Car) : Type 0 where
 
 pub record Sound (w : World) : Type 0 where
   pub shape : Shape w
-  pub counters : Counters w.ticks w.total_moves w.car_count w.cars
+  pub counters : Counters w.ticks w.total_moves w.cars.count w.cars.items
 
 -- ---- a car is set: car i of n, m then
 
@@ -91,10 +91,10 @@ module _ (c : Car) (table : List Car) (i n m : ℕ) (fits : (j : ℕ) → j < m 
 
 -- ---- a car's turn, and the cars' one after another
 
-step_shape : (w : World) (i : ℕ) (s : Step) → Shape w → CarIn w.line_count w.stop_count s.car → Shape (stepped w i s)
+step_shape : (w : World) (i : ℕ) (s : Step) → Shape w → CarIn w.lines.count w.stops.count s.car → Shape (stepped w i s)
 step_shape w i s h new = record {
   plan = h.plan;
-  cars = cars_set s.car w.cars i w.car_count w.car_count (λ j m e. m) w.line_count w.stop_count h.cars.few new h.cars;
+  cars = cars_set s.car w.cars.items i w.cars.count w.cars.count (λ j m e. m) w.lines.count w.stops.count h.cars.few new h.cars;
   riders = h.riders;
   calls = h.calls;
 }
@@ -102,37 +102,37 @@ step_shape w i s h new = record {
 -- w after some turns
 pub record Ran (w v : World) : Type 0 where
   pub shape : Shape v
-  pub stops : v.stop_count ≡ w.stop_count
-  pub cars : v.car_count ≡ w.car_count
+  pub stops : v.stops.count ≡ w.stops.count
+  pub cars : v.cars.count ≡ w.cars.count
 
 module _
     (turn : World → ℕ → Step)
-    (keeps : (w : World) (i : ℕ) → Shape w → i < w.car_count → CarIn w.line_count w.stop_count (turn w i).car)
+    (keeps : (w : World) (i : ℕ) → Shape w → i < w.cars.count → CarIn w.lines.count w.stops.count (turn w i).car)
     (w : World)
     (h : Shape w)
   where
     run_all : Ran w (run_cars turn w).world
     unfolding run_to run_cars
     run_all =
-        by_turns turn w (λ k r. Ran w r.world) w.car_count (record { shape = h; stops = refl; cars = refl })
+        by_turns turn w (λ k r. Ran w r.world) w.cars.count (record { shape = h; stops = refl; cars = refl })
         (λ k l p.
         let v : World = (run_to turn w k).world in
         record { shape = step_shape v k (turn v k) p.shape (keeps v k p.shape (omega (arith, p.cars))); stops = p.stops; cars = p.cars })
-        (min w.car_count 16) (omega arith)
+        (min w.cars.count 16) (omega arith)
 
 -- ---- the two systems
 
-move_keeps : (dt : Float) (w : World) (i : ℕ) → Shape w → i < w.car_count → CarIn w.line_count w.stop_count (move_of dt w i).car
-move_keeps dt w i h l = move_in w.line_count w.stop_count dt w i (h.cars.each i l)
+move_keeps : (dt : Float) (w : World) (i : ℕ) → Shape w → i < w.cars.count → CarIn w.lines.count w.stops.count (move_of dt w i).car
+move_keeps dt w i h l = move_in w.lines.count w.stops.count dt w i (h.cars.each i l)
 
-door_keeps : (w : World) (i : ℕ) → Shape w → i < w.car_count → CarIn w.line_count w.stop_count (door_of w i).car
+door_keeps : (w : World) (i : ℕ) → Shape w → i < w.cars.count → CarIn w.lines.count w.stops.count (door_of w i).car
 unfolding door_of
 door_keeps w i h l =
-    let c : Car = car_at w.cars i in
-    let line : Line = line_of w.lines c.line in
-    door_in w.line_count w.stop_count i c (h.cars.each i l) (at_stop line w.stops w.stop_count c.motion.position)
-    (has_rider_traversing w.riders w.rider_count i) (loop_next_stop_for_car line w.stops c.motion.position)
-    (next_in w.stop_count line (line_in w.stop_count w.lines c.line (h.plan.each c.line (h.cars.each i l).line)) w.stops c.motion.position)
+    let c : Car = car_at w.cars.items i in
+    let line : Line = line_of w.lines.items c.line in
+    door_in w.lines.count w.stops.count i c (h.cars.each i l) (at_stop line w.stops c.motion.position)
+    (has_rider_traversing w.riders i) (loop_next_stop_for_car line w.stops.items c.motion.position)
+    (next_in w.stops.count line (line_in w.stops.count w.lines.items c.line (h.plan.each c.line (h.cars.each i l).line)) w.stops.items c.motion.position)
 
 moved_ran : (w : World) (dt : Float) → Shape w → Ran w (moved w dt).world
 unfolding moved
@@ -206,7 +206,7 @@ tick_sound w dt more h = record {
     r : Ran w (tick_world w dt)
     r = tick_ran w dt h.shape
 
-    s : Counters w.ticks w.total_moves w.car_count w.cars
+    s : Counters w.ticks w.total_moves w.cars.count w.cars.items
     s = h.counters
 
     c : Counts w dt

@@ -33,15 +33,15 @@ stop_of None = None
 stop_of (Some (d, s)) = Some s
 
 -- dispatch/mod.rs, loop_next_stop_forward: none where there is no circle or no position, and for an empty list
-unfoldable pub loop_next_stop_forward : List Float → Float → List ℕ → ℕ → Float → Option ℕ
-loop_next_stop_forward stops circumference serves count position =
-    cond (not (is_finite position) || degenerate circumference) None (stop_of (nearest_to stops circumference serves position (min count 64)))
+unfoldable pub loop_next_stop_forward : List Float → Float → Table ℕ 64 → Float → Option ℕ
+loop_next_stop_forward stops circumference serves position =
+    cond (not (is_finite position) || degenerate circumference) None (stop_of (nearest_to stops circumference serves.items position (min serves.count 64)))
 
 -- dispatch/mod.rs, loop_next_stop_for_car. "Without a list .. a loop car has no next stop"
 abbrev pub next_stop_by : LineKind → Line → List Float → Float → Option ℕ
 next_stop_by Linear line stops position = None
 next_stop_by (Loop circumference headway) line stops position =
-    cond line.listed (loop_next_stop_forward stops circumference line.serves line.serves_count position) None
+    cond line.serves.listed (loop_next_stop_forward stops circumference line.serves.stops position) None
 
 unfoldable pub loop_next_stop_for_car : Line → List Float → Float → Option ℕ
 loop_next_stop_for_car line stops position = next_stop_by line.kind line stops position

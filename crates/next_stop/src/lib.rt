@@ -7,7 +7,7 @@ ghost use Rattle.next_stop.specs.NextStop.{ahead_of, nearer, stop_of, loop_next_
 use float::{EPSILON, is_finite};
 use lookup::stops::stop_position;
 use motion::cyclic::forward_distance;
-use world::{Line, LineKind};
+use world::{Line, LineKind, Table};
 
 // How far a stop is ahead on a loop; the whole circle where the car stands at it.
 #[tactic(auto, unfolding(crate::specs::NextStop::ahead_of))]
@@ -40,18 +40,17 @@ fn stop_of(best: Option<(f64, u8)>) -> Option<u8>
 pub fn loop_next_stop_forward(
     stops: &[f64; 64],
     circumference: f64,
-    serves: &[u8; 64],
-    serves_count: usize,
+    serves: &Table<u8, 64>,
     position: f64,
 ) -> Option<u8>
-    ensures { result ≡ loop_next_stop_forward stops.now circumference serves.now serves_count position }
+    ensures { result ≡ loop_next_stop_forward stops.now circumference serves.now position }
 {
     if !is_finite(position) | (!is_finite(circumference) | (circumference <= 0.0)) {
         return None;
     }
-    let n = serves_count.min(64);
+    let n = serves.count.min(64);
     let mut best = None;
-    for &s in &serves[..n] {
+    for &s in &serves.items[..n] {
         let distance = ahead_of(circumference, position, stop_position(stops, s));
         best = nearer_of(best, distance, s);
     }
@@ -64,13 +63,9 @@ pub fn loop_next_stop_for_car(line: Line, stops: &[f64; 64], position: f64) -> O
     ensures { result ≡ loop_next_stop_for_car line stops.now position }
 {
     match line.kind {
-        LineKind::Loop { circumference, .. } if line.listed => loop_next_stop_forward(
-            stops,
-            circumference,
-            &line.serves,
-            line.serves_count,
-            position,
-        ),
+        LineKind::Loop { circumference, .. } if line.serves.listed => {
+            loop_next_stop_forward(stops, circumference, &line.serves.stops, position)
+        }
         _ => None,
     }
 }

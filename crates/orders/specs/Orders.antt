@@ -27,15 +27,15 @@ can_go Stopped = true
 abbrev pub sent : Car → ℕ → Bool → Car
 sent c stop reposition =
     with_orders c (cond reposition (Repositioning stop) (MovingToStop stop)) c.service_mode c.enabled reposition (Some stop) c.manual_target_velocity
-    c.destination_queue c.destination_count c.door_command_queue c.command_count
+    c.destination_queue c.door_command_queue
 
 abbrev pub send_checks : World → ℕ → ℕ → List Check
 send_checks w car stop =
-    let c = car_at w.cars car in
+    let c = car_at w.cars.items car in
     check NotNow (not w.started)
-    ∷ check NotLoaded (no_such_car w car || unloaded w.stop_count stop)
+    ∷ check NotLoaded (no_such_car w car || unloaded w.stops.count stop)
     ∷ check CannotGo (not c.enabled || not (can_go c.phase))
     ∷ []
 
 unfoldable pub send : World → ℕ → ℕ → Bool → Changed
-send w car stop reposition = unless (send_checks w car stop) (refused w) (accepted (with_car w car (sent (car_at w.cars car) stop reposition)))
+send w car stop reposition = unless (send_checks w car stop) (refused w) (accepted (with_car w car (sent (car_at w.cars.items car) stop reposition)))

@@ -35,7 +35,7 @@ pub fn send(world: World, car: u8, stop: u8, reposition: bool) -> Changed
     ensures { result ≡ Orders.send world car stop reposition }
 {
     let row = row_of(world, car);
-    let unnamed = unloaded(world.stop_count, stop);
+    let unnamed = unloaded(world.stops.count, stop);
     let phase = row.phase;
     if !row.enabled | !can_go(phase) {
         return ordered(world, car, unnamed, Some(Refusal::CannotGo), row);

@@ -37,7 +37,7 @@ module _ (w : World) (log : List ℕ) where
   -- ---- what the state says of a tick
 
   abbrev pub tick_says : Result (Unit {0}) Refusal
-  tick_says = tick_taken w.started w.ticks w.car_count w.stop_count (length log)
+  tick_says = tick_taken w.started w.ticks w.cars.count w.stops.count (length log)
 
   abbrev said_of : Outcome → Result (Unit {0}) Refusal → Outcome
   said_of o (Ok t) = o

@@ -6,17 +6,17 @@ use Rattle.record.specs.Record.{Outcome, record_of, is_accepted}
 
 -- "An empty world has nothing loaded or queued, no hall call, no start, no tick made and every counter 0." What lies in its tables, past their counts, may be anything.
 pub record Empty (w : World) : Type 0 where
-  pub stops : w.stop_count ≡ 0
-  pub lines : w.line_count ≡ 0
-  pub cars : w.car_count ≡ 0
-  pub riders : w.rider_count ≡ 0
+  pub stops : w.stops.count ≡ 0
+  pub lines : w.lines.count ≡ 0
+  pub cars : w.cars.count ≡ 0
+  pub riders : w.riders.count ≡ 0
   pub up : w.up_calls ≡ 0
   pub down : w.down_calls ≡ 0
   pub started : w.started ≡ false
   pub ticks : w.ticks ≡ 0
   pub moves : w.total_moves ≡ 0
   -- the table of cars has its 16 places, as in every world of the code
-  pub places : length w.cars ≡ 16
+  pub places : length w.cars.items ≡ 16
 
 -- one call: its words and its log. "A call's log may have any length and hold anything before."
 pub record Call : Type 0 where

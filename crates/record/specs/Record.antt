@@ -14,7 +14,6 @@ use Rattle.record_kinds.specs.Kinds.{change_by, tick_checks}
 use Rattle.tick.specs.Tick.{tick_world, tick_words}
 use Rattle.record.specs.declared.Recorded.{Recorded}
 use Rattle.record.specs.declared.Accepted.{Accepted}
-use Rattle.tape_records.specs.declared.Decoded.{Decoded}
 
 -- ---- the answer: the certificate's "an accepted record or one numbered refusal"; refusal_number of `world` gives the numbers
 
@@ -68,7 +67,7 @@ changed log used c = record { answer = answer_of c.taken used; world = c.world; 
 
 -- 6, 11, 12
 abbrev pub checks_of_tick : World → List ℕ → List Check
-checks_of_tick w log = tick_checks w.started w.ticks w.car_count w.stop_count (length log)
+checks_of_tick w log = tick_checks w.started w.ticks w.cars.count w.stops.count (length log)
 
 abbrev pub ticked : World → List ℕ → ℕ → Float → Outcome
 ticked w log used dt = accepted used (length (tick_words w dt)) (tick_world w dt) (sets log 0 (tick_words w dt))
@@ -79,14 +78,14 @@ tick_once w log used dt = unless (checks_of_tick w log) (refused w log) (ticked 
 -- ---- the record call
 
 -- the record
-abbrev pub made_of : World → List ℕ → List ℕ → Read → Outcome
-made_of w log serves (Read.Accepted read used) = changed log used (change_by w serves read)
-made_of w log serves (Read.Tick dt used) = tick_once w log used dt
+abbrev pub made_of : World → List ℕ → Read → Outcome
+made_of w log (Read.Accepted read used) = changed log used (change_by w read)
+made_of w log (Read.Tick dt used) = tick_once w log used dt
 
 -- refusals 1 to 4, or the record
-abbrev pub read_by : World → List ℕ → Result Decoded Refusal → Outcome
+abbrev pub read_by : World → List ℕ → Result Read Refusal → Outcome
 read_by w log (Err r) = refused w log r
-read_by w log (Ok d) = made_of w log d.serves d.read
+read_by w log (Ok read) = made_of w log read
 
 -- "Checked in the order of the numbers": 0, then what the tape says, then what the state says
 unfoldable pub record_of : World → List ℕ → List ℕ → Outcome

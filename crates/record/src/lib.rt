@@ -18,7 +18,7 @@ use record_kinds::{change, take_tick};
 use sorted::sorted_stops;
 use sound::rest_broken;
 use sound_rows::car_broken;
-use steps::{lamps_of, line_at};
+use steps::line_at;
 use tape::decode;
 use tape_records::Read;
 use trips::{is_loop, is_trip, trip_of};
@@ -69,89 +69,83 @@ pub fn record(world: World, words: &[u32], log: &mut [u32]) -> Recorded
 {
     // 1. refusal 0: the cars one by one, and the rest
     let mut w = world;
-    let cars = w.car_count.min(16);
+    let cars = w.cars.count.min(16);
     let mut broken = rest_broken(w);
     for i in 0..cars {
-        let car = w.cars[i];
-        broken = broken | car_broken(w.line_count, w.stop_count, car);
+        let car = w.cars.items[i];
+        broken = broken | car_broken(w.lines.count, w.stops.count, car);
     }
     if broken {
         return refused(w, Refusal::BrokenWorld);
     }
     // 2. refusals 1 to 12, and every record but the tick
-    let decoded = match decode(words) {
-        Ok(decoded) => decoded,
+    let (dt, words_used) = match decode(words) {
+        Ok(Read::Accepted(found, used)) => return answered(change(w, found), used),
+        Ok(Read::Tick { dt, used }) => (dt, used),
         Err(refusal) => return refused(w, refusal),
     };
-    let (dt, words_used) = match decoded.read {
-        Read::Accepted(found, used) => return answered(change(w, found, decoded.serves), used),
-        Read::Tick { dt, used } => (dt, used),
-    };
-    let taken = take_tick(w.started, w.ticks, w.car_count, w.stop_count, log.len());
+    let taken = take_tick(w.started, w.ticks, w.cars.count, w.stops.count, log.len());
     if let Err(refusal) = taken {
         return refused(w, refusal);
     }
     // 3. the tick's word; movement.rs, run: car by car, each on positions already updated in this tick. A car at rest is left alone.
-    let stop_count = w.stop_count;
-    let sort = sorted_stops(&w.stops, stop_count);
+    let stop_count = w.stops.count;
+    let sort = sorted_stops(&w.stops);
     let mut to = emit(log, 0, Event::TickMade { tick: w.ticks });
     for i in 0..cars {
-        let car = w.cars[i];
+        let car = w.cars.items[i];
         let trip = trip_of(car);
         if is_trip(trip) {
             let mut kind = LineKind::Linear;
             let line = car.line as usize;
             if line < 8 {
-                let l = w.lines[line];
+                let l = w.lines.items[line];
                 kind = l.kind;
             }
             let mut leader = None;
             if is_loop(kind) {
-                let all = w.cars;
-                leader = leader_of(kind, all, w.car_count, i, car);
+                leader = leader_of(kind, &w.cars, i, car);
             }
-            let result = landing(trip, kind, leader, car, &w.stops, dt);
+            let result = landing(trip, kind, leader, car, &w.stops.items, dt);
             let number = i as u8;
-            let mut lamps = lamps_of(car);
+            let mut lamps = car.lamps;
             if asks_work(trip, kind, result.arrived) {
-                let row = w.cars[i];
-                let riders = w.riders;
-                lamps = work_of(trip, riders, w.rider_count, row, &w.stops, number);
+                let row = w.cars.items[i];
+                let riders = w.riders.items;
+                lamps = work_of(trip, riders, w.riders.count, row, &w.stops.items, number);
             }
             let told = tell(
-                log, to, number, trip, kind, car, result, lamps, &sort, &w.stops, stop_count,
+                log, to, number, trip, kind, car, result, lamps, &sort, &w.stops.items, stop_count,
             );
-            w.cars[i].motion.position = result.position;
-            w.cars[i].motion.velocity = result.velocity;
-            w.cars[i].move_count = car.move_count.wrapping_add(told.count);
+            w.cars.items[i].motion.position = result.position;
+            w.cars.items[i].motion.velocity = result.velocity;
+            w.cars.items[i].move_count = car.move_count.wrapping_add(told.count);
             w.total_moves = w.total_moves.wrapping_add(told.count);
             w.reposition_distance = distance_by(trip, kind, w.reposition_distance, car, result);
             to = told.at;
             if result.arrived {
-                let row = w.cars[i];
+                let row = w.cars.items[i];
                 let arrived = come(row, trip, lamps, w.ticks);
-                w.cars[i] = arrived;
+                w.cars.items[i] = arrived;
             }
         }
     }
     // 4. doors.rs, run: commands, then the door's tick, car by car; then the hall calls clear
     let mut just_opened = [None; 16];
     for i in 0..cars {
-        let car = w.cars[i];
+        let car = w.cars.items[i];
         if has_turn(car) {
             let number = i as u8;
-            let lines = w.lines;
-            let line = line_at(lines, car.line);
+            let line = line_at(&w.lines.items, car.line);
             let mut traversing = false;
-            if car.command_count != 0 {
-                let riders = w.riders;
-                traversing = has_rider_traversing(riders, w.rider_count, number);
+            if car.door_command_queue.count != 0 {
+                traversing = has_rider_traversing(&w.riders, number);
             }
-            let stop_count = w.stop_count;
-            let turned = door_turn(log, to, number, car, line, traversing, &w.stops, stop_count);
+            let stop_count = w.stops.count;
+            let turned = door_turn(log, to, number, car, line, traversing, &w.stops.items, stop_count);
             let next = turned.car;
             let opened = turned.opened;
-            w.cars[i] = next;
+            w.cars.items[i] = next;
             just_opened[i] = opened;
             to = turned.at;
         }

@@ -25,6 +25,6 @@ pub paper_room : PaperRoom
 unfolding PaperRoom
 paper_room w h =
     let n : Counts w = counted w h in
-    let c : min w.car_count 16 ≡ w.car_count = omega (arith, n.cars) in
-    let s : min w.stop_count 64 ≡ w.stop_count = omega (arith, n.stops) in
+    let c : min w.cars.count 16 ≡ w.cars.count = omega (arith, n.cars) in
+    let s : min w.stops.count 64 ≡ w.stops.count = omega (arith, n.stops) in
     rw (c, s)

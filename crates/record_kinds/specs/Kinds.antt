@@ -16,19 +16,19 @@ use Rattle.tick.specs.Room.{room_for}
 
 -- ---- kinds 1 to B and D: the state's refusal, or the world after the record
 
-abbrev pub change_by : World → List ℕ → Record → Changed
-change_by w serves (Line number kind listed count) = load_line w number kind listed count serves
-change_by w serves (Stop number position) = load_stop w number position
-change_by w serves (Car number plan) = load_car w number plan
-change_by w serves (Rider number rider) = load_rider w number rider
-change_by w serves (Send car stop reposition) = send w car stop reposition
-change_by w serves (Mode car mode) = set_mode w car mode
-change_by w serves (ManualSpeed car speed) = set_manual_speed w car speed
-change_by w serves (DoorCommand car command) = queue_command w car command
-change_by w serves (HallCall stop down) = press_hall_call w stop down
-change_by w serves (Destination car stop) = push_destination w car stop
-change_by w serves (Enable car enabled) = set_enabled w car enabled
-change_by w serves Start = start w
+abbrev pub change_by : World → Record → Changed
+change_by w (Line number line) = load_line w number line
+change_by w (Stop number position) = load_stop w number position
+change_by w (Car number plan) = load_car w number plan
+change_by w (Rider number rider) = load_rider w number rider
+change_by w (Send car stop reposition) = send w car stop reposition
+change_by w (Mode car mode) = set_mode w car mode
+change_by w (ManualSpeed car speed) = set_manual_speed w car speed
+change_by w (DoorCommand car command) = queue_command w car command
+change_by w (HallCall stop down) = press_hall_call w stop down
+change_by w (Destination car stop) = push_destination w car stop
+change_by w (Enable car enabled) = set_enabled w car enabled
+change_by w Start = start w
 
 -- ---- C tick
 

@@ -6,4 +6,4 @@ use Rattle.tick.specs.Room.{room_for}
 
 -- "cars × (stops + 14) + 1"
 unfoldable pub PaperRoom : Type 0
-PaperRoom = (w : World) → broken w ≡ false → room_for w.car_count w.stop_count ≡ w.car_count * (w.stop_count + 14) + 1
+PaperRoom = (w : World) → broken w ≡ false → room_for w.cars.count w.stops.count ≡ w.cars.count * (w.stops.count + 14) + 1

@@ -11,16 +11,11 @@ use world::World;
 use world::refusal::Refusal;
 
 // Kinds 1 to B and D: what the state refuses, or the world after the record.
-pub fn change(world: World, read: Record, serves: [u8; 64]) -> Changed
-    ensures { result ≡ Kinds.change_by world serves read }
+pub fn change(world: World, read: Record) -> Changed
+    ensures { result ≡ Kinds.change_by world read }
 {
     match read {
-        Record::Line {
-            number,
-            kind,
-            listed,
-            count,
-        } => loads::load_line(world, number, kind, listed, count, serves),
+        Record::Line { number, line } => loads::load_line(world, number, line),
         Record::Stop { number, position } => loads::load_stop(world, number, position),
         Record::Car { number, plan } => loads::load_car(world, number, plan),
         Record::Rider { number, rider } => loads::load_rider(world, number, rider),

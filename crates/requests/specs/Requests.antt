@@ -2,6 +2,7 @@
 use Rattle.std.specs.Prelude.{Bool, not, ◌||◌, cond, List, [], ◌∷◌, ℕ, ◌+◌, leb, set}
 use Rattle.door.specs.declared.DoorCommand.{DoorCommand}
 use Rattle.world.specs.World.{car_at}
+use Rattle.world.specs.Tables.{with_item}
 use Rattle.world.specs.With.{with_car, with_people, with_orders}
 use Rattle.sound_rows.specs.Rows.{unloaded}
 use Rattle.call_sets.specs.Calls.{pressed}
@@ -16,28 +17,28 @@ use Rattle.changes.specs.Changes.{refused, accepted, no_such_car}
 abbrev pub commanded : Car → DoorCommand → Car
 commanded c command =
     with_orders c c.phase c.service_mode c.enabled c.repositioning c.target_stop c.manual_target_velocity
-    c.destination_queue c.destination_count (set c.door_command_queue c.command_count command) (c.command_count + 1)
+    c.destination_queue (with_item c.door_command_queue c.door_command_queue.count command (c.door_command_queue.count + 1))
 
 abbrev pub command_checks : World → ℕ → List Check
 command_checks w car =
     check NotNow (not w.started)
     ∷ check NotLoaded (no_such_car w car)
-    ∷ check QueueFull (leb 8 (car_at w.cars car).command_count)
+    ∷ check QueueFull (leb 8 (car_at w.cars.items car).door_command_queue.count)
     ∷ []
 
 unfoldable pub queue_command : World → ℕ → DoorCommand → Changed
-queue_command w car command = unless (command_checks w car) (refused w) (accepted (with_car w car (commanded (car_at w.cars car) command)))
+queue_command w car command = unless (command_checks w car) (refused w) (accepted (with_car w car (commanded (car_at w.cars.items car) command)))
 
 -- 9 hall call
 abbrev pub call_checks : World → ℕ → List Check
 call_checks w stop =
     check NotNow (not w.started)
-    ∷ check NotLoaded (unloaded w.stop_count stop)
+    ∷ check NotLoaded (unloaded w.stops.count stop)
     ∷ []
 
 abbrev pub with_call : World → ℕ → Bool → World
 with_call w stop down =
-    with_people w w.riders w.rider_count
+    with_people w w.riders
     (cond down w.up_calls (pressed w.up_calls stop))
     (cond down (pressed w.down_calls stop) w.down_calls)
 
@@ -48,14 +49,14 @@ press_hall_call w stop down = unless (call_checks w stop) (refused w) (accepted 
 abbrev pub destined : Car → ℕ → Car
 destined c stop =
     with_orders c c.phase c.service_mode c.enabled c.repositioning c.target_stop c.manual_target_velocity
-    (set c.destination_queue c.destination_count stop) (c.destination_count + 1) c.door_command_queue c.command_count
+    (with_item c.destination_queue c.destination_queue.count stop (c.destination_queue.count + 1)) c.door_command_queue
 
 abbrev pub destination_checks : World → ℕ → ℕ → List Check
 destination_checks w car stop =
     check NotNow (not w.started)
-    ∷ check NotLoaded (no_such_car w car || unloaded w.stop_count stop)
-    ∷ check QueueFull (leb 8 (car_at w.cars car).destination_count)
+    ∷ check NotLoaded (no_such_car w car || unloaded w.stops.count stop)
+    ∷ check QueueFull (leb 8 (car_at w.cars.items car).destination_queue.count)
     ∷ []
 
 unfoldable pub push_destination : World → ℕ → ℕ → Changed
-push_destination w car stop = unless (destination_checks w car stop) (refused w) (accepted (with_car w car (destined (car_at w.cars car) stop)))
+push_destination w car stop = unless (destination_checks w car stop) (refused w) (accepted (with_car w car (destined (car_at w.cars.items car) stop)))

@@ -8,7 +8,7 @@ use call_sets::pressed;
 use changes::{Changed, accepted, ordered, refused, row_of};
 use door::DoorCommand;
 use sound_rows::unloaded;
-use world::World;
+use world::{Car, World};
 use world::refusal::Refusal;
 
 // Kind 8.
@@ -16,14 +16,17 @@ use world::refusal::Refusal;
 pub fn queue_command(world: World, car: u8, command: DoorCommand) -> Changed
     ensures { result ≡ Requests.queue_command world car command }
 {
-    let mut row = row_of(world, car);
-    let commands = row.command_count;
-    if 8 <= commands {
-        return ordered(world, car, false, Some(Refusal::QueueFull), row);
+    let row = row_of(world, car);
+    match row.door_command_queue.pushed(command) {
+        Some(queue) => {
+            let next = Car {
+                door_command_queue: queue,
+                ..row
+            };
+            ordered(world, car, false, None, next)
+        }
+        None => ordered(world, car, false, Some(Refusal::QueueFull), row),
     }
-    row.door_command_queue[commands] = command;
-    row.command_count = commands + 1;
-    ordered(world, car, false, None, row)
 }
 
 // Kind 9.
@@ -34,7 +37,7 @@ pub fn press_hall_call(world: World, stop: u8, down: bool) -> Changed
     if !world.started {
         return refused(world, Refusal::NotNow);
     }
-    if unloaded(world.stop_count, stop) {
+    if unloaded(world.stops.count, stop) {
         return refused(world, Refusal::NotLoaded);
     }
     let mut next = world;
@@ -51,13 +54,16 @@ pub fn press_hall_call(world: World, stop: u8, down: bool) -> Changed
 pub fn push_destination(world: World, car: u8, stop: u8) -> Changed
     ensures { result ≡ Requests.push_destination world car stop }
 {
-    let mut row = row_of(world, car);
-    let unnamed = unloaded(world.stop_count, stop);
-    let destinations = row.destination_count;
-    if 8 <= destinations {
-        return ordered(world, car, unnamed, Some(Refusal::QueueFull), row);
+    let row = row_of(world, car);
+    let unnamed = unloaded(world.stops.count, stop);
+    match row.destination_queue.pushed(stop) {
+        Some(queue) => {
+            let next = Car {
+                destination_queue: queue,
+                ..row
+            };
+            ordered(world, car, unnamed, None, next)
+        }
+        None => ordered(world, car, unnamed, Some(Refusal::QueueFull), row),
     }
-    row.destination_queue[destinations] = stop;
-    row.destination_count = destinations + 1;
-    ordered(world, car, unnamed, None, row)
 }

@@ -5,6 +5,7 @@ ghost use Rattle.std.specs.Prelude.{◌≡◌, true, not, ◌+◌, ◌<◌, min}
 ghost use Rattle.sorted.specs.Sorted.{position_before, stop_before, sorted_table, StopsSorted};
 
 use lookup::stops::stop_position;
+use world::Stops;
 
 // Whether a position comes before another: 0 and -0 alike, one that is not a number last.
 #[tactic(auto, unfolding(crate::specs::Sorted::position_before))]
@@ -57,13 +58,13 @@ fn insert(order: &mut [u8; 64], stops: &[f64; 64], i: usize)
 
 // The numbers below the count in the order of their stops; zeros past the count.
 #[tactic(auto, unfolding(crate::specs::Sorted::sorted_stops))]
-pub fn sorted_stops(stops: &[f64; 64], stop_count: usize) -> [u8; 64]
-    ensures { result ≡ sorted_table stops.now (min stop_count 64) }
+pub fn sorted_stops(stops: &Stops) -> [u8; 64]
+    ensures { result ≡ sorted_table stops.now.items (min stops.now.count 64) }
 {
-    let n = stop_count.min(64);
+    let n = stops.count.min(64);
     let mut order = [0u8; 64];
     for i in 0..n {
-        insert(&mut order, stops, i);
+        insert(&mut order, &stops.items, i);
     }
     order
 }

@@ -14,30 +14,30 @@ use Rattle.world.specs.declared.World.{World}
 
 -- the counts of a world whose counts are not broken
 pub record Counts (w : World) : Type 0 where
-  pub stops : w.stop_count ≤ 64
-  pub lines : w.line_count ≤ 8
-  pub cars : w.car_count ≤ 16
-  pub riders : w.rider_count ≤ 128
+  pub stops : w.stops.count ≤ 64
+  pub lines : w.lines.count ≤ 8
+  pub cars : w.cars.count ≤ 16
+  pub riders : w.riders.count ≤ 128
   pub ticks : w.ticks ≤ 2 ^ 28
   pub moves : w.total_moves < 2 ^ 48
 
 pub counts_fit : (w : World) → counts_broken w ≡ false → Counts w
 unfolding counts_broken
 counts_fit w h =
-    let a = ltb 64 w.stop_count in
-    let b = ltb 8 w.line_count in
-    let c = ltb 16 w.car_count in
-    let d = ltb 128 w.rider_count in
+    let a = ltb 64 w.stops.count in
+    let b = ltb 8 w.lines.count in
+    let c = ltb 16 w.cars.count in
+    let d = ltb 128 w.riders.count in
     let e = ltb (2 ^ 28) w.ticks in
     let h5 = or_left (a || b || c || d || e) (leb (2 ^ 48) w.total_moves) h in
     let h4 = or_left (a || b || c || d) e h5 in
     let h3 = or_left (a || b || c) d h4 in
     let h2 = or_left (a || b) c h3 in
     record {
-      stops = ltb-false 64 w.stop_count (or_left a b h2);
-      lines = ltb-false 8 w.line_count (or_right a b h2);
-      cars = ltb-false 16 w.car_count (or_right (a || b) c h3);
-      riders = ltb-false 128 w.rider_count (or_right (a || b || c) d h4);
+      stops = ltb-false 64 w.stops.count (or_left a b h2);
+      lines = ltb-false 8 w.lines.count (or_right a b h2);
+      cars = ltb-false 16 w.cars.count (or_right (a || b) c h3);
+      riders = ltb-false 128 w.riders.count (or_right (a || b || c) d h4);
       ticks = ltb-false (2 ^ 28) w.ticks (or_right (a || b || c || d) e h5);
       moves = leb-false (2 ^ 48) w.total_moves (or_right (a || b || c || d || e) (leb (2 ^ 48) w.total_moves) h);
     }
@@ -51,14 +51,14 @@ pub put_off : (x k u d : Bool) → (((x || k) || u) || d) ≡ (((x || u) || d) |
 put_off x k u d = ap (λ (y : Bool). y || d) (later x k u) ∙ later (x || u) k d
 
 -- refusal 0 is the rest and the cars
-pub in_parts : (w : World) → broken w ≡ (rest_broken w || cars_broken w w.car_count)
+pub in_parts : (w : World) → broken w ≡ (rest_broken w || cars_broken w w.cars.count)
 unfolding broken rest_broken
 in_parts w =
-    let x = counts_broken w || any_to (λ i. line_broken w.stop_count (line_at w.lines i)) w.line_count in
-    let k = cars_broken w w.car_count in
-    let r = any_to (λ i. rider_broken w.stop_count w.car_count (rider_at w.riders i)) w.rider_count in
-    let u = calls_unloaded w.stop_count w.up_calls in
-    let d = calls_unloaded w.stop_count w.down_calls in
+    let x = counts_broken w || any_to (λ i. line_broken w.stops.count (line_at w.lines.items i)) w.lines.count in
+    let k = cars_broken w w.cars.count in
+    let r = any_to (λ i. rider_broken w.stops.count w.cars.count (rider_at w.riders.items i)) w.riders.count in
+    let u = calls_unloaded w.stops.count w.up_calls in
+    let d = calls_unloaded w.stops.count w.down_calls in
     ap (λ (y : Bool). (y || u) || d) (later x k r) ∙ put_off (x || r) k u d
 
 -- where the rest is not broken the counts fit
@@ -67,8 +67,8 @@ unfolding rest_broken
 rest_fits w h = counts_fit w (or_left _ _ (or_left _ _ (or_left _ _ (or_left _ _ h))))
 
 -- so the first 16 places are all the cars
-pub in_places : (w : World) (b : Bool) → rest_broken w ≡ b → broken w ≡ (b || cars_broken w (min w.car_count 16))
+pub in_places : (w : World) (b : Bool) → rest_broken w ≡ b → broken w ≡ (b || cars_broken w (min w.cars.count 16))
 in_places w true h = in_parts w ∙ rw h
 in_places w false h =
-    let e : min w.car_count 16 ≡ w.car_count = omega (arith, (rest_fits w h).cars) in
+    let e : min w.cars.count 16 ≡ w.cars.count = omega (arith, (rest_fits w h).cars) in
     in_parts w ∙ rw (h, e)

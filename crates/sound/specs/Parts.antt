@@ -9,11 +9,11 @@ use Rattle.sound.specs.Sound.{calls_unloaded, counts_broken}
 unfoldable pub rest_broken : World → Bool
 rest_broken w =
     counts_broken w
-    || any_to (λ i. line_broken w.stop_count (line_at w.lines i)) w.line_count
-    || any_to (λ i. rider_broken w.stop_count w.car_count (rider_at w.riders i)) w.rider_count
-    || calls_unloaded w.stop_count w.up_calls
-    || calls_unloaded w.stop_count w.down_calls
+    || any_to (λ i. line_broken w.stops.count (line_at w.lines.items i)) w.lines.count
+    || any_to (λ i. rider_broken w.stops.count w.cars.count (rider_at w.riders.items i)) w.riders.count
+    || calls_unloaded w.stops.count w.up_calls
+    || calls_unloaded w.stops.count w.down_calls
 
 -- the cars below n
 abbrev pub cars_broken : World → ℕ → Bool
-cars_broken w = any_to (λ i. car_broken w.line_count w.stop_count (car_at w.cars i))
+cars_broken w = any_to (λ i. car_broken w.lines.count w.stops.count (car_at w.cars.items i))

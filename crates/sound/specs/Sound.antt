@@ -11,19 +11,19 @@ calls_unloaded stops calls = leb (2 ^ stops) calls
 -- a count above its table or limit, the ticks made and the total of moves among them
 unfoldable pub counts_broken : World → Bool
 counts_broken w =
-    ltb 64 w.stop_count
-    || ltb 8 w.line_count
-    || ltb 16 w.car_count
-    || ltb 128 w.rider_count
+    ltb 64 w.stops.count
+    || ltb 8 w.lines.count
+    || ltb 16 w.cars.count
+    || ltb 128 w.riders.count
     || ltb (2 ^ 28) w.ticks
     || leb (2 ^ 48) w.total_moves
 
 unfoldable pub broken : World → Bool
 broken w =
     counts_broken w
-    || any_to (λ i. line_broken w.stop_count (line_at w.lines i)) w.line_count
-    || any_to (λ i. car_broken w.line_count w.stop_count (car_at w.cars i)) w.car_count
-    || any_to (λ i. rider_broken w.stop_count w.car_count (rider_at w.riders i)) w.rider_count
+    || any_to (λ i. line_broken w.stops.count (line_at w.lines.items i)) w.lines.count
+    || any_to (λ i. car_broken w.lines.count w.stops.count (car_at w.cars.items i)) w.cars.count
+    || any_to (λ i. rider_broken w.stops.count w.cars.count (rider_at w.riders.items i)) w.riders.count
     -- a hall call's stop
-    || calls_unloaded w.stop_count w.up_calls
-    || calls_unloaded w.stop_count w.down_calls
+    || calls_unloaded w.stops.count w.up_calls
+    || calls_unloaded w.stops.count w.down_calls

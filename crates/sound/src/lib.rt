@@ -47,10 +47,10 @@ fn riders_broken(stops: usize, cars: usize, riders: &[Rider]) -> bool
 fn counts_broken(world: World) -> bool
     ensures { result ≡ Sound.counts_broken world }
 {
-    (64 < world.stop_count)
-        | (8 < world.line_count)
-        | (16 < world.car_count)
-        | (128 < world.rider_count)
+    (64 < world.stops.count)
+        | (8 < world.lines.count)
+        | (16 < world.cars.count)
+        | (128 < world.riders.count)
         | (0x1000_0000 < world.ticks)
         | (0x1_0000_0000_0000 <= world.total_moves)
 }
@@ -63,11 +63,11 @@ pub fn rest_broken(world: World) -> bool
     if counts_broken(world) {
         return true;
     }
-    let stops = world.stop_count;
-    lines_broken(stops, &world.lines[..world.line_count])
+    let stops = world.stops.count;
+    lines_broken(stops, &world.lines.items[..world.lines.count])
         | calls_unloaded(stops, world.up_calls)
         | calls_unloaded(stops, world.down_calls)
-        | riders_broken(stops, world.car_count, &world.riders[..world.rider_count])
+        | riders_broken(stops, world.cars.count, &world.riders.items[..world.riders.count])
 }
 
 // Refusal 0.
@@ -78,8 +78,8 @@ pub fn broken(world: World) -> bool
         return true;
     }
     cars_broken(
-        world.line_count,
-        world.stop_count,
-        &world.cars[..world.car_count],
+        world.lines.count,
+        world.stops.count,
+        &world.cars.items[..world.cars.count],
     )
 }

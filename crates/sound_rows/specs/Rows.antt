@@ -52,22 +52,22 @@ rider_phase_unloaded cars Resident = false
 unfoldable pub line_broken : ℕ → Line → Bool
 line_broken stops l =
     -- a count above its table
-    ltb 64 l.serves_count
+    ltb 64 l.serves.stops.count
     -- a listed stop
-    || any_to (λ k. unloaded stops (get_or l.serves k 0)) l.serves_count
+    || any_to (λ k. unloaded stops (get_or l.serves.stops.items k 0)) l.serves.stops.count
 
 unfoldable pub car_broken : ℕ → ℕ → Car → Bool
 car_broken lines stops c =
     -- a queue above 8
-    ltb 8 c.destination_count
-    || ltb 8 c.command_count
+    ltb 8 c.destination_queue.count
+    || ltb 8 c.door_command_queue.count
     -- a move counter of 2 to the 48 or more
     || leb (2 ^ 48) c.move_count
     -- its line, its phase's stop, its target, its destinations
     || unloaded lines c.line
     || phase_unloaded stops c.phase
     || stop_unloaded stops c.target_stop
-    || any_to (λ k. unloaded stops (get_or c.destination_queue k 0)) c.destination_count
+    || any_to (λ k. unloaded stops (get_or c.destination_queue.items k 0)) c.destination_queue.count
 
 unfoldable pub rider_broken : ℕ → ℕ → Rider → Bool
 rider_broken stops cars r =

@@ -57,11 +57,11 @@ fn one_unloaded(numbers: &[u8], loaded: usize) -> bool
 pub fn line_broken(stops: usize, line: Line) -> bool
     ensures { result ≡ Rows.line_broken stops line }
 {
-    let count = line.serves_count;
+    let count = line.serves.stops.count;
     if 64 < count {
         return true;
     }
-    one_unloaded(&line.serves[..count], stops)
+    one_unloaded(&line.serves.stops.items[..count], stops)
 }
 
 // Whether a car has a queue, a counter or a number that records never make.
@@ -69,16 +69,16 @@ pub fn line_broken(stops: usize, line: Line) -> bool
 pub fn car_broken(lines: usize, stops: usize, car: Car) -> bool
     ensures { result ≡ Rows.car_broken lines stops car }
 {
-    let count = car.destination_count;
+    let count = car.destination_queue.count;
     if 8 < count {
         return true;
     }
-    (8 < car.command_count)
+    (8 < car.door_command_queue.count)
         | (0x1_0000_0000_0000 <= car.move_count)
         | unloaded(lines, car.line)
         | phase_unloaded(stops, car.phase)
         | option_unloaded(stops, car.target_stop)
-        | one_unloaded(&car.destination_queue[..count], stops)
+        | one_unloaded(&car.destination_queue.items[..count], stops)
 }
 
 // Whether a rider names a stop or a car that is not loaded.

@@ -25,5 +25,5 @@ module _ (turn : World → ℕ → Step) (w : World) where
       by_turns (λ j r. field r.world ≡ field w) k refl (λ j l p. e (run_to turn w j).world j (turn (run_to turn w j).world j) ∙ p) k (omega arith)
 
 -- a car that is left as it is
-pub stepped_same : (w : World) (i : ℕ) → w ≡ stepped w i (step_of w (car_at w.cars i) [] not_opened)
-stepped_same w i = ap (λ (cars : List Car). with_cars w cars w.car_count) (sym (set-get_or w.cars i no_car))
+pub stepped_same : (w : World) (i : ℕ) → w ≡ stepped w i (step_of w (car_at w.cars.items i) [] not_opened)
+stepped_same w i = ap (λ (cars : List Car). with_cars w cars w.cars.count) (sym (set-get_or w.cars.items i no_car))

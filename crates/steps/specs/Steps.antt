@@ -19,7 +19,7 @@ use Rattle.world.specs.With.{placed, with_turn}
 
 -- a car's line; past the table a linear one without a list, which refusal 0 keeps away
 unfoldable pub line_of : List Line → ℕ → Line
-line_of lines line = cond (ltb line 8) (line_at lines line) (record { kind = Linear; listed = false; serves = replicate 64 0; serves_count = 0 })
+line_of lines line = cond (ltb line 8) (line_at lines line) (record { kind = Linear; serves = serves_none })
 
 abbrev pub is_manual : ServiceMode → Bool
 is_manual Normal = false
@@ -36,9 +36,6 @@ is_inspection Manual = false
 is_inspection OutOfService = false
 
 -- ---- the lamps (direction indicators)
-
-abbrev pub lamps_of : Car → Lamps
-lamps_of c = record { going_up = c.going_up; going_down = c.going_down }
 
 abbrev pub both_lit : Lamps
 both_lit = record { going_up = true; going_down = true }
@@ -98,4 +95,4 @@ run_to turn w (suc i) = ran (run_to turn w i) i (turn (run_to turn w i).world i)
 
 -- after all; a count above the table is taken as the table's size
 unfoldable pub run_cars : (World → ℕ → Step) → World → Run
-run_cars turn w = run_to turn w (min w.car_count 16)
+run_cars turn w = run_to turn w (min w.cars.count 16)

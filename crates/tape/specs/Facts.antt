@@ -12,7 +12,7 @@ use Rattle.layout.specs.Layout.{kind_of}
 
 -- the kind of a record; a tick is kind C
 abbrev pub kind_number : Record → ℕ
-kind_number (Line number kind listed count) = 1
+kind_number (Line number line) = 1
 kind_number (Stop number position) = 2
 kind_number (Car number plan) = 3
 kind_number (Rider number rider) = 4
@@ -31,9 +31,9 @@ ReadInBounds ws (Accepted r used) = (0 < used) × (used ≤ length ws) × (kind_
 ReadInBounds ws (Tick dt used) = (0 < used) × (used ≤ length ws) × (kind_of (get_or ws 0 0) ≡ 12)
 
 -- a refusal is 1 to 4
-abbrev pub InBounds : List ℕ → Result Decoded Refusal → Type 0
+abbrev pub InBounds : List ℕ → Result Read Refusal → Type 0
 InBounds ws (Err r) = (1 ≤ refusal_number r) × (refusal_number r ≤ 4)
-InBounds ws (Ok d) = ReadInBounds ws d.read
+InBounds ws (Ok r) = ReadInBounds ws r
 
 unfoldable pub Facts : Type 0
 Facts = (ws : List ℕ) → InBounds ws (decoded ws)

@@ -19,7 +19,7 @@ pub record Kind : Type 0 where
 abbrev pub kind : ℕ → Deed → Kind
 kind k d = record { number = k; deed = d }
 
-abbrev pub kind_in : ℕ → List Kind → Result Decoded Refusal
+abbrev pub kind_in : ℕ → List Kind → Result Read Refusal
 kind_in k [] = Err UnknownKind
 kind_in k (t ∷ ts) = cond (eqb k t.number) (answer t.deed) (kind_in k ts)
 
@@ -41,8 +41,8 @@ kinds h ws =
     ∷ []
 
 -- the record of a head and words, and the record that words begin with
-unfoldable pub record_of : Head → List ℕ → Result Decoded Refusal
+unfoldable pub record_of : Head → List ℕ → Result Read Refusal
 record_of h ws = kind_in h.kind (kinds h ws)
 
-unfoldable pub decoded : List ℕ → Result Decoded Refusal
+unfoldable pub decoded : List ℕ → Result Read Refusal
 decoded ws = unless (check CutShort (eqb (length ws) 0) ∷ []) Err (record_of (head_of (get_or ws 0 0)) ws)

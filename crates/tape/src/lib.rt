@@ -7,15 +7,15 @@ ghost use Rattle.std.specs.Prelude.{◌≡◌};
 ghost use Rattle.tape.specs.Tape.{decoded};
 
 use fields::head::head_of;
-use tape_records::Decoded;
+use tape_records::Read;
 use world::refusal::Refusal;
 
 // The record that the words begin with.
 #[tactic(auto, unfolding(crate::specs::Tape::decoded, crate::specs::Tape::record_of))]
-pub fn decode(words: &[u32]) -> Result<Decoded, Refusal>
+pub fn decode(words: &[u32]) -> Result<Read, Refusal>
     ensures { result ≡ decoded words.now }
 {
-    if words.len() == 0 {
+    if words.is_empty() {
         return Err(Refusal::CutShort);
     }
     let head = head_of(words[0]);

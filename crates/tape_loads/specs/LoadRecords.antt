@@ -40,6 +40,11 @@ line_floats_outside h ws = eqb h.s 1 && (outside_above_zero (float_at ws 1) mill
 unfoldable pub line_kind_of : Head → List ℕ → LineKind
 line_kind_of h ws = cond (eqb h.s 0) Linear (Loop (float_at ws 1) (float_at ws 3))
 
+abbrev pub line_row : Head → List ℕ → Line
+line_row h ws =
+    let count = serves_count h.v in
+    record { kind = line_kind_of h ws; serves = record { listed = not (eqb h.v 65535); stops = record { items = serves_to ws count; count = count } } }
+
 unfoldable pub line_record : Head → List ℕ → Deed
 line_record h ws =
     let count = serves_count h.v in
@@ -50,7 +55,7 @@ line_record h ws =
           ∷ check FieldOutside (line_fields_outside h ws || serves_outside ws count)
           ∷ check FloatOutside (line_floats_outside h ws)
           ∷ [];
-      done = record { read = Accepted (Record.Line h.n (line_kind_of h ws) (not (eqb h.v 65535)) count) (5 + count); serves = serves_to ws count };
+      done = Accepted (Record.Line h.n (line_row h ws)) (5 + count);
     }
 
 -- ---- 2 stop: s number; body position
@@ -62,7 +67,7 @@ stop_record h ws = record {
       ∷ check FieldOutside (nonzero h.n || not_stop h.s || nonzero h.v)
       ∷ check FloatOutside (outside_size (float_at ws 1) million)
       ∷ [];
-  done = accepted (Record.Stop h.s (float_at ws 1)) 3;
+  done = Accepted (Record.Stop h.s (float_at ws 1)) 3;
 }
 
 -- ---- 3 car: n number; s line; body six floats, then transition ticks and open ticks
@@ -93,7 +98,7 @@ car_record h ws = record {
       ∷ check FieldOutside (not_line h.s || nonzero h.v)
       ∷ check FloatOutside (motion_outside (motion_at ws))
       ∷ [];
-  done = accepted (Record.Car h.n (record { line = h.s; motion = motion_at ws; door_transition_ticks = get_or ws 13 0; door_open_ticks = get_or ws 14 0 })) 15;
+  done = Accepted (Record.Car h.n (record { line = h.s; motion = motion_at ws; door_transition_ticks = get_or ws 13 0; door_open_ticks = get_or ws 14 0 })) 15;
 }
 
 -- ---- 4 rider: s number; v destination stop or 65,535 for none
@@ -135,5 +140,5 @@ rider_record h ws =
           check CutShort (ltb (length ws) 2)
           ∷ check FieldOutside (nonzero h.n || not_rider h.s || not_stop h.v && not (eqb h.v 65535) || rider_body_outside b)
           ∷ [];
-      done = accepted (Record.Rider h.s (record { destination = stop_option h.v; phase = rider_phase b.phase b.car; aboard = car_option b.aboard })) 2;
+      done = Accepted (Record.Rider h.s (record { destination = stop_option h.v; phase = rider_phase b.phase b.car; aboard = car_option b.aboard })) 2;
     }

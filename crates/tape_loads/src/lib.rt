@@ -9,9 +9,9 @@ use fields::body::{
     float_at, outside_above_zero, outside_from_zero, outside_size, raw_zero_at, word_at,
 };
 use fields::head::Head;
-use tape_records::{Decoded, Read, Record, accepted, refuse_if};
+use tape_records::{Read, Record, refuse_if};
 use world::refusal::Refusal;
-use world::{CarPlan, LineKind, Motion, Rider, RiderPhase};
+use world::{CarPlan, Line, LineKind, Motion, Rider, RiderPhase, Serves, Table};
 
 // How many served stops follow: 65,535 stands for no list.
 #[tactic(auto, unfolding(crate::specs::LoadRecords::serves_count))]
@@ -79,7 +79,7 @@ fn line_kind_of(head: Head, words: &[u32]) -> LineKind
 }
 
 #[tactic(auto, unfolding(crate::specs::LoadRecords::line_record))]
-pub fn decode_line(head: Head, words: &[u32]) -> Result<Decoded, Refusal>
+pub fn decode_line(head: Head, words: &[u32]) -> Result<Read, Refusal>
     ensures { result ≡ answer (line_record head words.now) }
 {
     refuse_if((head.v > 64) & (head.v != 65535), Refusal::FieldOutside)?;
@@ -89,18 +89,22 @@ pub fn decode_line(head: Head, words: &[u32]) -> Result<Decoded, Refusal>
     refuse_if(field_outside, Refusal::FieldOutside)?;
     refuse_if(line_floats_outside(head, words), Refusal::FloatOutside)?;
     let kind = line_kind_of(head, words);
-    let record = Record::Line {
-        number: head.n,
-        kind,
-        listed: head.v != 65535,
+    let stops = Table {
+        items: serves_to(words, count),
         count,
     };
-    let read = Read::Accepted(record, 5 + count);
-    let serves = serves_to(words, count);
-    Ok(Decoded { read, serves })
+    let serves = Serves {
+        listed: head.v != 65535,
+        stops,
+    };
+    let record = Record::Line {
+        number: head.n,
+        line: Line { kind, serves },
+    };
+    Ok(Read::Accepted(record, 5 + count))
 }
 
-pub fn decode_stop(head: Head, words: &[u32]) -> Result<Decoded, Refusal>
+pub fn decode_stop(head: Head, words: &[u32]) -> Result<Read, Refusal>
     ensures { result ≡ answer (stop_record head words.now) }
 {
     refuse_if(words.len() < 3, Refusal::CutShort)?;
@@ -112,7 +116,7 @@ pub fn decode_stop(head: Head, words: &[u32]) -> Result<Decoded, Refusal>
         number: head.s,
         position,
     };
-    Ok(accepted(record, 3))
+    Ok(Read::Accepted(record, 3))
 }
 
 fn motion_at(words: &[u32]) -> Motion
@@ -139,7 +143,7 @@ fn motion_outside(motion: Motion) -> bool
         | outside_from_zero(motion.inspection_speed_factor, 10.0)
 }
 
-pub fn decode_car(head: Head, words: &[u32]) -> Result<Decoded, Refusal>
+pub fn decode_car(head: Head, words: &[u32]) -> Result<Read, Refusal>
     ensures { result ≡ answer (car_record head words.now) }
 {
     refuse_if(words.len() < 15, Refusal::CutShort)?;
@@ -156,7 +160,7 @@ pub fn decode_car(head: Head, words: &[u32]) -> Result<Decoded, Refusal>
         number: head.n,
         plan,
     };
-    Ok(accepted(record, 15))
+    Ok(Read::Accepted(record, 15))
 }
 
 // The body word of a rider: bits 7-0 phase, 15-8 phase's car, 23-16 car aboard, top bits.
@@ -227,7 +231,7 @@ fn stop_option(stop: u32) -> Option<u8>
     if stop < 64 { Some(stop as u8) } else { None }
 }
 
-pub fn decode_rider(head: Head, words: &[u32]) -> Result<Decoded, Refusal>
+pub fn decode_rider(head: Head, words: &[u32]) -> Result<Read, Refusal>
     ensures { result ≡ answer (rider_record head words.now) }
 {
     refuse_if(words.len() < 2, Refusal::CutShort)?;
@@ -246,5 +250,5 @@ pub fn decode_rider(head: Head, words: &[u32]) -> Result<Decoded, Refusal>
         number: head.s,
         rider,
     };
-    Ok(accepted(record, 2))
+    Ok(Read::Accepted(record, 2))
 }

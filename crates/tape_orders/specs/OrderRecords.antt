@@ -22,7 +22,7 @@ send_record h = record {
   checks =
       check FieldOutside (not_stop h.s || ltb 1 h.v)
       ∷ [];
-  done = accepted (Record.Send h.n h.s (eqb h.v 1)) 1;
+  done = Accepted (Record.Send h.n h.s (eqb h.v 1)) 1;
 }
 
 -- ---- 6 mode: n car, v 0 Normal, 1 Independent, 2 Inspection, 3 Manual, 4 OutOfService
@@ -35,7 +35,7 @@ mode_record h = record {
   checks =
       check FieldOutside (nonzero h.s || ltb 4 h.v)
       ∷ [];
-  done = accepted (Record.Mode h.n (mode_of h.v)) 1;
+  done = Accepted (Record.Mode h.n (mode_of h.v)) 1;
 }
 
 -- ---- 7 manual speed: n car, v 1 set, 0 none; body a float (raw zero words if none)
@@ -50,7 +50,7 @@ manual_speed_record h ws = record {
       ∷ check FieldOutside (nonzero h.s || ltb 1 h.v || eqb h.v 0 && not (raw_zero_at ws 1))
       ∷ check FloatOutside (eqb h.v 1 && outside_size (float_at ws 1) thousand)
       ∷ [];
-  done = accepted (Record.ManualSpeed h.n (speed_of h.v (float_at ws 1))) 3;
+  done = Accepted (Record.ManualSpeed h.n (speed_of h.v (float_at ws 1))) 3;
 }
 
 -- ---- 8 door command: n car, s 0 Open, 1 Close, 2 HoldOpen with v ticks, 3 CancelHold
@@ -63,7 +63,7 @@ door_command_record h = record {
   checks =
       check FieldOutside (ltb 3 h.s || not (eqb h.s 2) && nonzero h.v)
       ∷ [];
-  done = accepted (Record.DoorCommand h.n (command_of h.s h.v)) 1;
+  done = Accepted (Record.DoorCommand h.n (command_of h.s h.v)) 1;
 }
 
 -- ---- 9 hall call: s stop, v 0 up, 1 down
@@ -73,7 +73,7 @@ hall_call_record h = record {
   checks =
       check FieldOutside (nonzero h.n || not_stop h.s || ltb 1 h.v)
       ∷ [];
-  done = accepted (Record.HallCall h.s (eqb h.v 1)) 1;
+  done = Accepted (Record.HallCall h.s (eqb h.v 1)) 1;
 }
 
 -- ---- A destination: n car, s stop
@@ -83,7 +83,7 @@ destination_record h = record {
   checks =
       check FieldOutside (not_stop h.s || nonzero h.v)
       ∷ [];
-  done = accepted (Record.Destination h.n h.s) 1;
+  done = Accepted (Record.Destination h.n h.s) 1;
 }
 
 -- ---- B: n car, v 0 enable, 1 disable
@@ -93,7 +93,7 @@ enable_record h = record {
   checks =
       check FieldOutside (nonzero h.s || ltb 1 h.v)
       ∷ [];
-  done = accepted (Record.Enable h.n (eqb h.v 0)) 1;
+  done = Accepted (Record.Enable h.n (eqb h.v 0)) 1;
 }
 
 -- ---- C tick: body dt
@@ -109,7 +109,7 @@ tick_record h ws = record {
       ∷ check FieldOutside (any_field_set h)
       ∷ check FloatOutside (outside_above_zero (float_at ws 1) F64.one)
       ∷ [];
-  done = alone (Tick (float_at ws 1) 3);
+  done = Tick (float_at ws 1) 3;
 }
 
 -- ---- D start
@@ -119,5 +119,5 @@ start_record h = record {
   checks =
       check FieldOutside (any_field_set h)
       ∷ [];
-  done = accepted Record.Start 1;
+  done = Accepted Record.Start 1;
 }

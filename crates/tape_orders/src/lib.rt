@@ -8,11 +8,11 @@ ghost use Rattle.tape_orders.specs.OrderRecords.{send_record, mode_of, mode_reco
 use door::DoorCommand;
 use fields::body::{float_at, outside_above_zero, outside_size, raw_zero_at};
 use fields::head::Head;
-use tape_records::{Decoded, Read, Record, accepted, alone, refuse_if};
+use tape_records::{Read, Record, refuse_if};
 use world::ServiceMode;
 use world::refusal::Refusal;
 
-pub fn decode_send(head: Head) -> Result<Decoded, Refusal>
+pub fn decode_send(head: Head) -> Result<Read, Refusal>
     ensures { result ≡ answer (send_record head) }
 {
     refuse_if((head.s > 63) | (head.v > 1), Refusal::FieldOutside)?;
@@ -21,7 +21,7 @@ pub fn decode_send(head: Head) -> Result<Decoded, Refusal>
         stop: head.s,
         reposition: head.v == 1,
     };
-    Ok(accepted(record, 1))
+    Ok(Read::Accepted(record, 1))
 }
 
 // Stays: a TryFrom would look again at the codes that the record's check has passed.
@@ -37,13 +37,13 @@ fn mode_of(v: u32) -> ServiceMode
     }
 }
 
-pub fn decode_mode(head: Head) -> Result<Decoded, Refusal>
+pub fn decode_mode(head: Head) -> Result<Read, Refusal>
     ensures { result ≡ answer (mode_record head) }
 {
     refuse_if((head.s != 0) | (head.v > 4), Refusal::FieldOutside)?;
     let mode = mode_of(head.v);
     let record = Record::Mode { car: head.n, mode };
-    Ok(accepted(record, 1))
+    Ok(Read::Accepted(record, 1))
 }
 
 fn speed_of(v: u32, speed: f64) -> Option<f64>
@@ -52,7 +52,7 @@ fn speed_of(v: u32, speed: f64) -> Option<f64>
     if v == 1 { Some(speed) } else { None }
 }
 
-pub fn decode_manual_speed(head: Head, words: &[u32]) -> Result<Decoded, Refusal>
+pub fn decode_manual_speed(head: Head, words: &[u32]) -> Result<Read, Refusal>
     ensures { result ≡ answer (manual_speed_record head words.now) }
 {
     refuse_if(words.len() < 3, Refusal::CutShort)?;
@@ -64,7 +64,7 @@ pub fn decode_manual_speed(head: Head, words: &[u32]) -> Result<Decoded, Refusal
     refuse_if(float_outside, Refusal::FloatOutside)?;
     let speed = speed_of(head.v, float);
     let record = Record::ManualSpeed { car: head.n, speed };
-    Ok(accepted(record, 3))
+    Ok(Read::Accepted(record, 3))
 }
 
 fn command_of(s: u8, v: u32) -> DoorCommand
@@ -78,7 +78,7 @@ fn command_of(s: u8, v: u32) -> DoorCommand
     }
 }
 
-pub fn decode_door_command(head: Head) -> Result<Decoded, Refusal>
+pub fn decode_door_command(head: Head) -> Result<Read, Refusal>
     ensures { result ≡ answer (door_command_record head) }
 {
     let field_outside = (head.s > 3) | (head.s != 2) & (head.v != 0);
@@ -88,11 +88,11 @@ pub fn decode_door_command(head: Head) -> Result<Decoded, Refusal>
         car: head.n,
         command,
     };
-    Ok(accepted(record, 1))
+    Ok(Read::Accepted(record, 1))
 }
 
 // Stays: here and below a function a kind: each has its own codes and fields.
-pub fn decode_hall_call(head: Head) -> Result<Decoded, Refusal>
+pub fn decode_hall_call(head: Head) -> Result<Read, Refusal>
     ensures { result ≡ answer (hall_call_record head) }
 {
     let field_outside = (head.n != 0) | (head.s > 63) | (head.v > 1);
@@ -101,10 +101,10 @@ pub fn decode_hall_call(head: Head) -> Result<Decoded, Refusal>
         stop: head.s,
         down: head.v == 1,
     };
-    Ok(accepted(record, 1))
+    Ok(Read::Accepted(record, 1))
 }
 
-pub fn decode_destination(head: Head) -> Result<Decoded, Refusal>
+pub fn decode_destination(head: Head) -> Result<Read, Refusal>
     ensures { result ≡ answer (destination_record head) }
 {
     refuse_if((head.s > 63) | (head.v != 0), Refusal::FieldOutside)?;
@@ -112,10 +112,10 @@ pub fn decode_destination(head: Head) -> Result<Decoded, Refusal>
         car: head.n,
         stop: head.s,
     };
-    Ok(accepted(record, 1))
+    Ok(Read::Accepted(record, 1))
 }
 
-pub fn decode_enable(head: Head) -> Result<Decoded, Refusal>
+pub fn decode_enable(head: Head) -> Result<Read, Refusal>
     ensures { result ≡ answer (enable_record head) }
 {
     refuse_if((head.s != 0) | (head.v > 1), Refusal::FieldOutside)?;
@@ -123,7 +123,7 @@ pub fn decode_enable(head: Head) -> Result<Decoded, Refusal>
         car: head.n,
         enabled: head.v == 0,
     };
-    Ok(accepted(record, 1))
+    Ok(Read::Accepted(record, 1))
 }
 
 // One of n, s and v is not 0.
@@ -133,21 +133,20 @@ fn any_field_set(head: Head) -> bool
     (head.n != 0) | (head.s != 0) | (head.v != 0)
 }
 
-pub fn decode_tick(head: Head, words: &[u32]) -> Result<Decoded, Refusal>
+pub fn decode_tick(head: Head, words: &[u32]) -> Result<Read, Refusal>
     ensures { result ≡ answer (tick_record head words.now) }
 {
     refuse_if(words.len() < 3, Refusal::CutShort)?;
     refuse_if(any_field_set(head), Refusal::FieldOutside)?;
     let dt = float_at(words, 1);
     refuse_if(outside_above_zero(dt, 1.0), Refusal::FloatOutside)?;
-    let read = Read::Tick { dt, used: 3 };
-    Ok(alone(read))
+    Ok(Read::Tick { dt, used: 3 })
 }
 
-pub fn decode_start(head: Head) -> Result<Decoded, Refusal>
+pub fn decode_start(head: Head) -> Result<Read, Refusal>
     ensures { result ≡ answer (start_record head) }
 {
     refuse_if(any_field_set(head), Refusal::FieldOutside)?;
     let record = Record::Start;
-    Ok(accepted(record, 1))
+    Ok(Read::Accepted(record, 1))
 }

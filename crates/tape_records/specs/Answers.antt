@@ -39,18 +39,10 @@ ten = of_bits binary64 0x4024_0000_0000_0000
 
 -- ---- checks: "Checked in the order of the numbers"; "on its condition and on no other"
 
--- an answer without a list
-abbrev pub alone : Read → Decoded
-alone r = record { read = r; serves = replicate 64 0 }
-
--- a record and the words that it takes
-abbrev pub accepted : Record → ℕ → Decoded
-accepted r used = alone (Accepted r used)
-
 -- a record: its checks in order, and the answer where none holds
 pub record Deed : Type 0 where
   pub checks : List Check
-  pub done : Decoded
+  pub done : Read
 
-abbrev pub answer : Deed → Result Decoded Refusal
+abbrev pub answer : Deed → Result Read Refusal
 answer d = unless d.checks Err (Ok d.done)

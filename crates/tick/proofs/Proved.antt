@@ -42,20 +42,20 @@ calls_quiet os h (suc n) =
 -- ---- the two systems
 
 module _ (w : World) (dt : Float) where
-  move_turns : (v : World) (i : ℕ) → v.stop_count ≡ w.stop_count → Fair (min w.stop_count 64 + 3) 64 v.total_moves (car_at v.cars i) (move_of dt v i)
+  move_turns : (v : World) (i : ℕ) → v.stops.count ≡ w.stops.count → Fair (min w.stops.count 64 + 3) 64 v.total_moves (car_at v.cars.items i) (move_of dt v i)
   move_turns v i e = rw (← e) (move_fair dt v i)
 
-  moved_told : Told (move_of dt) w (min w.stop_count 64 + 3) 64 (cars_of w) (moved w dt)
+  moved_told : Told (move_of dt) w (min w.stops.count 64 + 3) 64 (cars_of w) (moved w dt)
   unfolding moved run_cars
-  moved_told = run_told (move_of dt) w (min w.stop_count 64 + 3) 64 move_turns (cars_of w)
+  moved_told = run_told (move_of dt) w (min w.stops.count 64 + 3) 64 move_turns (cars_of w)
 
 doored_told : (w : World) → Told door_of w 11 0 (cars_of w) (doored w)
 unfolding doored run_cars
 doored_told w = run_told door_of w 11 0 (λ v i e. door_fair v i) (cars_of w)
 
-same_count : (w : World) (dt : Float) → (moved w dt).world.car_count ≡ w.car_count
+same_count : (w : World) (dt : Float) → (moved w dt).world.cars.count ≡ w.cars.count
 unfolding moved run_cars
-same_count w dt = kept (move_of dt) w (λ (v : World). v.car_count) (λ v i s. refl) (cars_of w)
+same_count w dt = kept (move_of dt) w (λ (v : World). v.cars.count) (λ v i s. refl) (cars_of w)
 
 -- a tick's words by their parts
 parts : (a b c : List ℕ) → length (a ++ (b ++ c)) ≡ length a + (length b + length c)
@@ -95,7 +95,7 @@ module _ (w : World) (dt : Float) (low : Low w) where
   moved_grown : Grown (move_of dt) w (cars_of w) v
   unfolding moved run_cars
   moved_grown =
-      run_grown (move_of dt) w (min w.stop_count 64 + 3) 64 (move_turns w dt) (cars_of w) (omega arith) (omega arith) (λ j l. omega (arith, low.cars j l))
+      run_grown (move_of dt) w (min w.stops.count 64 + 3) 64 (move_turns w dt) (cars_of w) (omega arith) (omega arith) (λ j l. omega (arith, low.cars j l))
       (omega (arith, low.total)) (move_still dt) (cars_of w) (omega arith)
 
   move_few : (i : ℕ) → moves_of (move_of dt) w i ≤ 64

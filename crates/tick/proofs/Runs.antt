@@ -53,17 +53,17 @@ pub record Told (f : World → ℕ → Step) (w : World) (room most k : ℕ) (r 
 
 pub record Grown (f : World → ℕ → Step) (w : World) (k : ℕ) (v : World) : Type 0 where
   pub total : v.total_moves ≡ w.total_moves + sum_to (moves_of f w) k
-  pub done : (j : ℕ) → j < k → (car_at v.cars j).move_count ≡ (car_at w.cars j).move_count + moves_of f w j
-  pub rest : (j : ℕ) → k ≤ j → car_at v.cars j ≡ car_at w.cars j
+  pub done : (j : ℕ) → j < k → (car_at v.cars.items j).move_count ≡ (car_at w.cars.items j).move_count + moves_of f w j
+  pub rest : (j : ℕ) → k ≤ j → car_at v.cars.items j ≡ car_at w.cars.items j
 
 module _
     (f : World → ℕ → Step)
     (w : World)
     (room most : ℕ)
-    (fair : (v : World) (i : ℕ) → v.stop_count ≡ w.stop_count → Fair room most v.total_moves (car_at v.cars i) (f v i))
+    (fair : (v : World) (i : ℕ) → v.stops.count ≡ w.stops.count → Fair room most v.total_moves (car_at v.cars.items i) (f v i))
   where
-    turn_fair : (k : ℕ) → Fair room most (run_to f w k).world.total_moves (car_at (run_to f w k).world.cars k) (f (run_to f w k).world k)
-    turn_fair k = fair (run_to f w k).world k (kept f w (λ (v : World). v.stop_count) (λ v i s. refl) k)
+    turn_fair : (k : ℕ) → Fair room most (run_to f w k).world.total_moves (car_at (run_to f w k).world.cars.items k) (f (run_to f w k).world k)
+    turn_fair k = fair (run_to f w k).world k (kept f w (λ (v : World). v.stops.count) (λ v i s. refl) k)
 
     pub run_told : (k : ℕ) → Told f w room most k (run_to f w k)
     unfolding run_to stops_in sum_to how_many moves_of
@@ -72,7 +72,7 @@ module _
         (λ k l t.
         let r : Run = run_to f w k in
         let s : Step = f r.world k in
-        let h : Fair room most r.world.total_moves (car_at r.world.cars k) s = turn_fair k in
+        let h : Fair room most r.world.total_moves (car_at r.world.cars.items k) s = turn_fair k in
         record {
           size = omega (arith, length-append r.words s.words, t.size, h.size, stops_set r.opened k s.opened);
           told = moves_append r.words s.words ∙ omega (arith, t.told);
@@ -84,17 +84,17 @@ module _
         (m : ℕ)
         (M : m ≤ 16)
         (L : most ≤ 64)
-        (low : (j : ℕ) → j < m → (car_at w.cars j).move_count < 2 ^ 49)
+        (low : (j : ℕ) → j < m → (car_at w.cars.items j).move_count < 2 ^ 49)
         (below : w.total_moves < 2 ^ 49)
-        (still : (v : World) (i : ℕ) → (car_at v.cars i).enabled ≡ false → moves_in (f v i).words ≡ 0)
+        (still : (v : World) (i : ℕ) → (car_at v.cars.items i).enabled ≡ false → moves_in (f v i).words ≡ 0)
       where
         grow : (k : ℕ) → k < m → Grown f w k (run_to f w k).world → Grown f w (suc k) (run_to f w (suc k)).world
         unfolding run_to sum_to moves_of
         grow k K g = record {
           total = h.total (omega (arith, g.total, (run_told k).few, mul-le-mul_left k L)) ∙ omega (arith, g.total);
-          done = λ j l. ⊎_elim (λ (e : j ≡ k). rw e (here (at_set v.cars k s.car no_car)))
-              (λ (b : j < k). rw (get_or-set_other v.cars k j s.car no_car (λ (e : j ≡ k). omega (arith, e))) (g.done j b)) (eq-or-lt_of_le (last j l));
-          rest = λ j l. get_or-set_other v.cars k j s.car no_car (λ (e : j ≡ k). omega (arith, e)) ∙ g.rest j (omega arith);
+          done = λ j l. ⊎_elim (λ (e : j ≡ k). rw e (here (at_set v.cars.items k s.car no_car)))
+              (λ (b : j < k). rw (get_or-set_other v.cars.items k j s.car no_car (λ (e : j ≡ k). omega (arith, e))) (g.done j b)) (eq-or-lt_of_le (last j l));
+          rest = λ j l. get_or-set_other v.cars.items k j s.car no_car (λ (e : j ≡ k). omega (arith, e)) ∙ g.rest j (omega arith);
         }
           where
             v : World
@@ -103,17 +103,17 @@ module _
             s : Step
             s = f v k
 
-            h : Fair room most v.total_moves (car_at v.cars k) s
+            h : Fair room most v.total_moves (car_at v.cars.items k) s
             h = turn_fair k
 
             last : (j : ℕ) → j < suc k → j ≤ k
             last j l = omega arith
 
-            before : car_at v.cars k ≡ car_at w.cars k
+            before : car_at v.cars.items k ≡ car_at w.cars.items k
             before = g.rest k (omega arith)
 
-            here : (car_at (set v.cars k s.car) k ≡ s.car) ⊎ ((car_at (set v.cars k s.car) k ≡ no_car) × (car_at v.cars k ≡ no_car))
-                → (car_at (set v.cars k s.car) k).move_count ≡ (car_at w.cars k).move_count + moves_in s.words
+            here : (car_at (set v.cars.items k s.car) k ≡ s.car) ⊎ ((car_at (set v.cars.items k s.car) k ≡ no_car) × (car_at v.cars.items k ≡ no_car))
+                → (car_at (set v.cars.items k s.car) k).move_count ≡ (car_at w.cars.items k).move_count + moves_in s.words
             here (inl e) = rw (e, ← before) (h.car (rw before (omega (arith, low k K))))
             here (inr e) = rw (e.0, ← before, e.1) (omega (arith, still v k (rw e.1 refl)))
 

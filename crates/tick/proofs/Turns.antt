@@ -112,10 +112,10 @@ one_move k n s v h q = rw (kind_word k n s v, h) (omega (arith, q.none))
 
 module _ (w : World) (i : ℕ) where
   abbrev c : Car
-  c = car_at w.cars i
+  c = car_at w.cars.items i
 
   abbrev Moves : Step → Type 0
-  Moves s = Fair (min w.stop_count 64 + 3) 64 w.total_moves c s
+  Moves s = Fair (min w.stops.count 64 + 3) 64 w.total_moves c s
 
   pass_fair : (trip : Trip) (kind : LineKind) (r : MovementResult) → Moves (passes w i trip kind r)
   pass_fair trip kind r = record {
@@ -129,10 +129,10 @@ module _ (w : World) (i : ℕ) where
       up = moving_up kind c.motion.position r.position
 
       ss : List ℕ
-      ss = passed_by trip kind w.stops (min w.stop_count 64) c.motion.position r
+      ss = passed_by trip kind w.stops.items (min w.stops.count 64) c.motion.position r
 
-      fits : length ss ≤ min w.stop_count 64
-      fits = passed_fits trip kind w.stops (min w.stop_count 64) c.motion.position r
+      fits : length ss ≤ min w.stops.count 64
+      fits = passed_fits trip kind w.stops.items (min w.stops.count 64) c.motion.position r
 
   -- a turn of one move
   one_fair : (s : Step) → s.opened ≡ not_opened → length s.words ≤ 3 → moves_in s.words ≡ 1 → s.car.move_count ≡ plus c.move_count 1
@@ -155,7 +155,7 @@ module _ (w : World) (i : ℕ) where
       quiet_join (quiet_one 4 i s 0 refl) (lamps_quiet i (lamps_of c) both_lit) in
       one_fair (arrives w i (Repositions s) kind r lamps) refl (omega (arith, q.size)) (one_move 3 i s 0 refl q) refl refl
 
-pub move_fair : (dt : Float) (w : World) (i : ℕ) → Fair (min w.stop_count 64 + 3) 64 w.total_moves (car_at w.cars i) (move_of dt w i)
+pub move_fair : (dt : Float) (w : World) (i : ℕ) → Fair (min w.stops.count 64 + 3) 64 w.total_moves (car_at w.cars.items i) (move_of dt w i)
 unfolding how_many
 move_fair dt w i =
     move_cases (Moves w i) w i (record { size = omega arith; few = omega arith; car = λ l. omega arith; total = λ l. omega arith }) (λ e. pass_fair w i)
@@ -174,7 +174,7 @@ module _ (c : Car) (at_stop traversing : Bool) (i : ℕ) where
 
   commands_quiet : Quiet 8 (command_words c at_stop traversing i)
   unfolding command_words
-  commands_quiet = quiet_more (omega arith) (works_quiet (min c.command_count 8))
+  commands_quiet = quiet_more (omega arith) (works_quiet (min c.door_command_queue.count 8))
 
 -- the door's turn of car c
 pub record Shuts (c : Car) (room : ℕ) (t : Turn) : Type 0 where
@@ -224,11 +224,11 @@ step_fair w c t h = record {
   total = λ l. omega (arith, h.none);
 }
 
-pub door_fair : (w : World) (i : ℕ) → Fair 11 0 w.total_moves (car_at w.cars i) (door_of w i)
+pub door_fair : (w : World) (i : ℕ) → Fair 11 0 w.total_moves (car_at w.cars.items i) (door_of w i)
 unfolding door_of
-door_fair w i = step_fair w (car_at w.cars i) (turn_on w i (car_at w.cars i) (line_of w.lines (car_at w.cars i).line)) (turn_shuts i (car_at w.cars i) _ _ _)
+door_fair w i = step_fair w (car_at w.cars.items i) (turn_on w i (car_at w.cars.items i) (line_of w.lines.items (car_at w.cars.items i).line)) (turn_shuts i (car_at w.cars.items i) _ _ _)
 
 -- a car that is not enabled has no moves
-pub move_still : (dt : Float) (w : World) (i : ℕ) → (car_at w.cars i).enabled ≡ false → moves_in (move_of dt w i).words ≡ 0
+pub move_still : (dt : Float) (w : World) (i : ℕ) → (car_at w.cars.items i).enabled ≡ false → moves_in (move_of dt w i).words ≡ 0
 unfolding move_of how_many
 move_still dt w i e = rw e refl

@@ -31,7 +31,7 @@ sum_to f (suc n) = sum_to f n + f n
 
 -- a car's counter
 abbrev pub count_of : World → ℕ → ℕ
-count_of w i = (car_at w.cars i).move_count
+count_of w i = (car_at w.cars.items i).move_count
 
 -- as refusal 0 has it: no "move counter of 2 to the 48 or more"; the ticks made are at most 2 to the 28 there
 pub record Low (w : World) : Type 0 where

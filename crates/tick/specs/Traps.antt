@@ -59,8 +59,8 @@ line kind = record { kind = kind; listed = false; serves = replicate 64 0; serve
 -- line 0, its stops and its cars
 abbrev world : LineKind → List Float → List Car → World
 world kind stops cars =
-    with_cars (with_plan empty_world (loaded stops empty_world.stops) (length stops) (loaded (line kind ∷ []) empty_world.lines) 1 true)
-    (loaded cars empty_world.cars) (length cars)
+    with_cars (with_plan empty_world (loaded stops empty_world.stops.items) (length stops) (loaded (line kind ∷ []) empty_world.lines.items) 1 true)
+    (loaded cars empty_world.cars.items) (length cars)
 
 -- max speed 2, rates 1, factor 1
 abbrev motion : Float → Float → Motion
@@ -76,8 +76,7 @@ motion position velocity = record {
 -- as a send leaves a car
 abbrev sent : Car → ℕ → Car
 sent c stop =
-    with_orders c (MovingToStop stop) c.service_mode c.enabled false (Some stop) c.manual_target_velocity c.destination_queue
-    c.destination_count c.door_command_queue c.command_count
+    with_orders c (MovingToStop stop) c.service_mode c.enabled false (Some stop) c.manual_target_velocity c.destination_queue c.door_command_queue
 
 -- both door times 1
 abbrev car : Float → Float → ℕ → Car
@@ -93,7 +92,7 @@ words_of_ticks zero w = []
 words_of_ticks (suc n) w = tick_words w half ++ words_of_ticks n (tick_world w half)
 
 abbrev position : World → ℕ → Float
-position w i = (car_at w.cars i).motion.position
+position w i = (car_at w.cars.items i).motion.position
 
 -- ---- the worlds of the claims
 

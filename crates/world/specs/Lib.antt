@@ -1,3 +1,4 @@
+pub mod Tables
 pub mod World
 pub mod With
 pub mod Refusal

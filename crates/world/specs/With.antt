@@ -1,9 +1,10 @@
 -- A world or a car with some of its fields changed.
-use Rattle.std.specs.Prelude.{Bool, List, ℕ, set, Float}
+use Rattle.std.specs.Prelude.{Bool, ℕ, Float}
 use Rattle.door.specs.declared.DoorState.{DoorState}
 use Rattle.world.specs.declared.World.{World}
 use Rattle.std.specs.declared.option.Option.{Option}
-use Rattle.world.specs.declared.Queue.{Queue}
+use Rattle.world.specs.declared.Table.{Table}
+use Rattle.world.specs.Tables.{Queue, Stops, with_item}
 use Rattle.world.specs.declared.Lamps.{Lamps}
 use Rattle.world.specs.declared.Car.{Car}
 use Rattle.world.specs.declared.Line.{Line}
@@ -13,16 +14,12 @@ use Rattle.world.specs.declared.ElevatorPhase.{ElevatorPhase}
 use Rattle.world.specs.declared.ServiceMode.{ServiceMode}
 
 -- its stops, lines and start
-abbrev pub with_plan : World → List Float → ℕ → List Line → ℕ → Bool → World
-with_plan w stops n lines m started = record {
+abbrev pub with_plan : World → Stops → Table Line 8 → Bool → World
+with_plan w stops lines started = record {
   stops = stops;
-  stop_count = n;
   lines = lines;
-  line_count = m;
   cars = w.cars;
-  car_count = w.car_count;
   riders = w.riders;
-  rider_count = w.rider_count;
   up_calls = w.up_calls;
   down_calls = w.down_calls;
   started = started;
@@ -32,16 +29,12 @@ with_plan w stops n lines m started = record {
 }
 
 -- its cars
-abbrev pub with_cars : World → List Car → ℕ → World
-with_cars w cars n = record {
+abbrev pub with_cars : World → Table Car 16 → World
+with_cars w cars = record {
   stops = w.stops;
-  stop_count = w.stop_count;
   lines = w.lines;
-  line_count = w.line_count;
   cars = cars;
-  car_count = n;
   riders = w.riders;
-  rider_count = w.rider_count;
   up_calls = w.up_calls;
   down_calls = w.down_calls;
   started = w.started;
@@ -52,19 +45,15 @@ with_cars w cars n = record {
 
 -- one car
 abbrev pub with_car : World → ℕ → Car → World
-with_car w i c = with_cars w (set w.cars i c) w.car_count
+with_car w i c = with_cars w (with_item w.cars i c w.cars.count)
 
 -- its riders and hall calls
-abbrev pub with_people : World → List Rider → ℕ → ℕ → ℕ → World
-with_people w riders n up down = record {
+abbrev pub with_people : World → Table Rider 128 → ℕ → ℕ → World
+with_people w riders up down = record {
   stops = w.stops;
-  stop_count = w.stop_count;
   lines = w.lines;
-  line_count = w.line_count;
   cars = w.cars;
-  car_count = w.car_count;
   riders = riders;
-  rider_count = n;
   up_calls = up;
   down_calls = down;
   started = w.started;
@@ -77,13 +66,9 @@ with_people w riders n up down = record {
 abbrev pub with_turn : World → ℕ → Car → ℕ → Float → World
 with_turn w i c total distance = record {
   stops = w.stops;
-  stop_count = w.stop_count;
   lines = w.lines;
-  line_count = w.line_count;
-  cars = set w.cars i c;
-  car_count = w.car_count;
+  cars = with_item w.cars i c w.cars.count;
   riders = w.riders;
-  rider_count = w.rider_count;
   up_calls = w.up_calls;
   down_calls = w.down_calls;
   started = w.started;
@@ -96,13 +81,9 @@ with_turn w i c total distance = record {
 abbrev pub with_ticks : World → ℕ → World
 with_ticks w ticks = record {
   stops = w.stops;
-  stop_count = w.stop_count;
   lines = w.lines;
-  line_count = w.line_count;
   cars = w.cars;
-  car_count = w.car_count;
   riders = w.riders;
-  rider_count = w.rider_count;
   up_calls = w.up_calls;
   down_calls = w.down_calls;
   started = w.started;
@@ -114,8 +95,8 @@ with_ticks w ticks = record {
 -- ---- a car
 
 -- its orders: phase, mode, enabled mark, repositioning flag, target, manual speed, the two queues
-abbrev pub with_orders : Car → ElevatorPhase → ServiceMode → Bool → Bool → Option ℕ → Option Float → List ℕ → ℕ → List DoorCommand → ℕ → Car
-with_orders c phase mode enabled repositioning target speed destinations m commands n = record {
+abbrev pub with_orders : Car → ElevatorPhase → ServiceMode → Bool → Bool → Option ℕ → Option Float → Queue ℕ → Queue DoorCommand → Car
+with_orders c phase mode enabled repositioning target speed destinations commands = record {
   line = c.line;
   phase = phase;
   door = c.door;
@@ -124,16 +105,13 @@ with_orders c phase mode enabled repositioning target speed destinations m comma
   motion = c.motion;
   door_transition_ticks = c.door_transition_ticks;
   door_open_ticks = c.door_open_ticks;
-  going_up = c.going_up;
-  going_down = c.going_down;
+  lamps = c.lamps;
   going_forward = c.going_forward;
   repositioning = repositioning;
   target_stop = target;
   manual_target_velocity = speed;
   destination_queue = destinations;
-  destination_count = m;
   door_command_queue = commands;
-  command_count = n;
   move_count = c.move_count;
   cooldown = c.cooldown;
 }
@@ -157,22 +135,19 @@ placed c position velocity count = record {
       };
   door_transition_ticks = c.door_transition_ticks;
   door_open_ticks = c.door_open_ticks;
-  going_up = c.going_up;
-  going_down = c.going_down;
+  lamps = c.lamps;
   going_forward = c.going_forward;
   repositioning = c.repositioning;
   target_stop = c.target_stop;
   manual_target_velocity = c.manual_target_velocity;
   destination_queue = c.destination_queue;
-  destination_count = c.destination_count;
   door_command_queue = c.door_command_queue;
-  command_count = c.command_count;
   move_count = count;
   cooldown = c.cooldown;
 }
 
 -- a car that has come to its stop: its phase, door, target, repositioning flag, lamps, queue and cooldown
-abbrev pub with_arrived : Car → ElevatorPhase → DoorState → Option ℕ → Bool → Lamps → Queue → Option ℕ → Car
+abbrev pub with_arrived : Car → ElevatorPhase → DoorState → Option ℕ → Bool → Lamps → Queue ℕ → Option ℕ → Car
 with_arrived c phase door target repositioning lamps queue cooldown = record {
   line = c.line;
   phase = phase;
@@ -182,23 +157,20 @@ with_arrived c phase door target repositioning lamps queue cooldown = record {
   motion = c.motion;
   door_transition_ticks = c.door_transition_ticks;
   door_open_ticks = c.door_open_ticks;
-  going_up = lamps.going_up;
-  going_down = lamps.going_down;
+  lamps = lamps;
   going_forward = c.going_forward;
   repositioning = repositioning;
   target_stop = target;
   manual_target_velocity = c.manual_target_velocity;
-  destination_queue = queue.stops;
-  destination_count = queue.count;
+  destination_queue = queue;
   door_command_queue = c.door_command_queue;
-  command_count = c.command_count;
   move_count = c.move_count;
   cooldown = cooldown;
 }
 
 -- a car after its door's turn: its phase, door, target, lamps and command queue
-abbrev pub with_door : Car → ElevatorPhase → DoorState → Option ℕ → Lamps → Bool → List DoorCommand → ℕ → Car
-with_door c phase door target lamps forward commands count = record {
+abbrev pub with_door : Car → ElevatorPhase → DoorState → Option ℕ → Lamps → Bool → Queue DoorCommand → Car
+with_door c phase door target lamps forward commands = record {
   line = c.line;
   phase = phase;
   door = door;
@@ -207,16 +179,13 @@ with_door c phase door target lamps forward commands count = record {
   motion = c.motion;
   door_transition_ticks = c.door_transition_ticks;
   door_open_ticks = c.door_open_ticks;
-  going_up = lamps.going_up;
-  going_down = lamps.going_down;
+  lamps = lamps;
   going_forward = forward;
   repositioning = c.repositioning;
   target_stop = target;
   manual_target_velocity = c.manual_target_velocity;
   destination_queue = c.destination_queue;
-  destination_count = c.destination_count;
   door_command_queue = commands;
-  command_count = count;
   move_count = c.move_count;
   cooldown = c.cooldown;
 }

@@ -1,13 +1,15 @@
 -- The world's tables: what is read at a number, and the empty world.
-use Rattle.std.specs.Prelude.{true, false, List, [], ℕ, get_or, replicate, Float}
+use Rattle.std.specs.Prelude.{true, false, List, [], ℕ, get_or, Float}
 use Rattle.std.specs.Float.{nan}
 use Rattle.float.specs.Float.{zero}
 use Rattle.door.specs.declared.DoorState.TheVariants as Door
 use Rattle.door.specs.declared.DoorCommand.TheVariants as Command
 use Rattle.world.specs.declared.World.{World}
+use Rattle.world.specs.Tables.{of_none}
 use Rattle.world.specs.declared.Car.{Car}
 use Rattle.world.specs.declared.CarPlan.{CarPlan}
 use Rattle.world.specs.declared.Line.{Line}
+use Rattle.world.specs.declared.Serves.{Serves}
 use Rattle.world.specs.declared.Rider.{Rider}
 use Rattle.world.specs.declared.Motion.{Motion}
 use Rattle.door.specs.declared.DoorCommand.{DoorCommand}
@@ -42,22 +44,23 @@ no_car = record {
   motion = no_motion;
   door_transition_ticks = 0;
   door_open_ticks = 0;
-  going_up = false;
-  going_down = false;
+  lamps = record { going_up = false; going_down = false };
   going_forward = false;
   repositioning = false;
   target_stop = None;
   manual_target_velocity = None;
-  destination_queue = [];
-  destination_count = 0;
-  door_command_queue = [];
-  command_count = 0;
+  destination_queue = record { items = []; count = 0 };
+  door_command_queue = record { items = []; count = 0 };
   move_count = 0;
   cooldown = None;
 }
 
 abbrev pub no_line : Line
-no_line = record { kind = Linear; listed = false; serves = []; serves_count = 0 }
+no_line = record { kind = Linear; serves = record { listed = false; stops = record { items = []; count = 0 } } }
+
+-- no list: what an unloaded line has
+abbrev pub serves_none : Serves
+serves_none = record { listed = false; stops = of_none 64 0 }
 
 abbrev pub no_rider : Rider
 no_rider = record { destination = None; phase = Waiting; aboard = None }
@@ -89,16 +92,13 @@ new_car plan = record {
   motion = plan.motion;
   door_transition_ticks = plan.door_transition_ticks;
   door_open_ticks = plan.door_open_ticks;
-  going_up = true;
-  going_down = true;
+  lamps = record { going_up = true; going_down = true };
   going_forward = false;
   repositioning = false;
   target_stop = None;
   manual_target_velocity = None;
-  destination_queue = replicate 8 0;
-  destination_count = 0;
-  door_command_queue = replicate 8 no_command;
-  command_count = 0;
+  destination_queue = of_none 8 0;
+  door_command_queue = of_none 8 no_command;
   move_count = 0;
   cooldown = None;
 }
@@ -111,14 +111,10 @@ empty_car =
 -- "nothing loaded or queued, no hall call, no start, no tick made and every counter 0"
 unfoldable pub empty_world : World
 empty_world = record {
-  stops = replicate 64 zero;
-  stop_count = 0;
-  lines = replicate 8 (record { kind = Linear; listed = false; serves = replicate 64 0; serves_count = 0 });
-  line_count = 0;
-  cars = replicate 16 empty_car;
-  car_count = 0;
-  riders = replicate 128 no_rider;
-  rider_count = 0;
+  stops = of_none 64 zero;
+  lines = of_none 8 (record { kind = Linear; serves = serves_none });
+  cars = of_none 16 empty_car;
+  riders = of_none 128 no_rider;
   up_calls = 0;
   down_calls = 0;
   started = false;

@@ -3,7 +3,8 @@ ghost use Rattle.std.specs.Prelude.{◌≡◌};
 ghost use Rattle.world.specs.World.{new_car, empty_car, empty_world};
 
 use crate::{
-    Car, CarPlan, ElevatorPhase, Line, LineKind, Motion, Rider, RiderPhase, ServiceMode, World,
+    Car, CarPlan, ElevatorPhase, Lamps, Line, LineKind, Motion, Queue, Rider, RiderPhase, Serves,
+    ServiceMode, Table, World,
 };
 use door::{DoorCommand, DoorState};
 
@@ -21,16 +22,19 @@ pub fn new_car(plan: CarPlan) -> Car
         motion,
         door_transition_ticks: plan.door_transition_ticks,
         door_open_ticks: plan.door_open_ticks,
-        going_up: true,
-        going_down: true,
+        lamps: Lamps::BOTH,
         going_forward: false,
         repositioning: false,
         target_stop: None,
         manual_target_velocity: None,
-        destination_queue: [0u8; 8],
-        destination_count: 0,
-        door_command_queue: [DoorCommand::Open; 8],
-        command_count: 0,
+        destination_queue: Queue {
+            items: [0u8; 8],
+            count: 0,
+        },
+        door_command_queue: Queue {
+            items: [DoorCommand::Open; 8],
+            count: 0,
+        },
         move_count: 0,
         cooldown: None,
     }
@@ -64,9 +68,7 @@ pub fn empty() -> World
 {
     let line = Line {
         kind: LineKind::Linear,
-        listed: false,
-        serves: [0u8; 64],
-        serves_count: 0,
+        serves: Serves::NONE,
     };
     let rider = Rider {
         destination: None,
@@ -74,18 +76,23 @@ pub fn empty() -> World
         aboard: None,
     };
     let car = empty_car();
-    let lines = [line; 8];
-    let cars = [car; 16];
-    let riders = [rider; 128];
     World {
-        stops: [0.0f64; 64],
-        lines,
-        cars,
-        riders,
-        stop_count: 0,
-        line_count: 0,
-        car_count: 0,
-        rider_count: 0,
+        stops: Table {
+            items: [0.0f64; 64],
+            count: 0,
+        },
+        lines: Table {
+            items: [line; 8],
+            count: 0,
+        },
+        cars: Table {
+            items: [car; 16],
+            count: 0,
+        },
+        riders: Table {
+            items: [rider; 128],
+            count: 0,
+        },
         up_calls: 0,
         down_calls: 0,
         started: false,

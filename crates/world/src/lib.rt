@@ -2,6 +2,9 @@
 // It goes in by value and comes back. What lies past a table's count means nothing.
 #![tactic(auto)]
 
+ghost use Rattle.std.specs.Prelude.{◌≡◌};
+ghost use Rattle.world.specs.Tables.{pushed};
+
 pub mod empty; // a new car, the empty world
 pub mod refusal; // the refusals and their numbers
 pub mod with; // a car with some of its fields changed
@@ -18,14 +21,58 @@ pub enum LineKind {
     },
 }
 
-// A line: its kind, and the stops that it serves in order; `listed` is false where it has no list.
+// A table of a fixed size, or a queue: its items, of which the first `count` are there.
+// Stays: an array with its count, and no Vec. A world goes by value, and no call may run out of memory.
+#[derive(Clone, Copy)]
+pub struct Table<T, const N: usize> {
+    pub items: [T; N],
+    pub count: usize,
+}
+
+impl<T: Copy, const N: usize> Table<T, N> {
+    // With one more item at its end; None where it is full.
+    pub fn pushed(self, item: T) -> Option<Table<T, N>>
+        ensures { result ≡ pushed self item }
+    {
+        if N <= self.count {
+            return None;
+        }
+        let mut next = self;
+        next.items[self.count] = item;
+        next.count = self.count + 1;
+        Some(next)
+    }
+}
+
+// A car's queue of destinations, or of door commands.
+pub type Queue<T> = Table<T, 8>;
+
+// The positions of the stops.
+pub type Stops = Table<f64, 64>;
+
+// The stops that a line serves, in order; `listed` is false where it has no list.
 // Stays: `listed` and no Option of the list. Refusal 0 looks at the count of a line without a list too.
+#[derive(Clone, Copy)]
+pub struct Serves {
+    pub listed: bool,
+    pub stops: Table<u8, 64>,
+}
+
+impl Serves {
+    pub const NONE: Serves = Serves {
+        listed: false,
+        stops: Table {
+            items: [0; 64],
+            count: 0,
+        },
+    };
+}
+
+// A line: its kind, and what it serves.
 #[derive(Clone, Copy)]
 pub struct Line {
     pub kind: LineKind,
-    pub listed: bool,
-    pub serves: [u8; 64],
-    pub serves_count: usize,
+    pub serves: Serves,
 }
 
 // Position and velocity of a car, and what limits them.
@@ -81,17 +128,13 @@ pub struct Car {
     pub motion: Motion,
     pub door_transition_ticks: u32,
     pub door_open_ticks: u32,
-    // the lamps (direction indicators)
-    pub going_up: bool,
-    pub going_down: bool,
+    pub lamps: Lamps,
     pub going_forward: bool,
     pub repositioning: bool,
     pub target_stop: Option<u8>,
     pub manual_target_velocity: Option<f64>,
-    pub destination_queue: [u8; 8],
-    pub destination_count: usize,
-    pub door_command_queue: [DoorCommand; 8],
-    pub command_count: usize,
+    pub destination_queue: Queue<u8>,
+    pub door_command_queue: Queue<DoorCommand>,
     pub move_count: u64,
     pub cooldown: Option<u64>,
 }
@@ -136,25 +179,12 @@ impl Lamps {
     };
 }
 
-// A car's queue of destinations.
-#[derive(Clone, Copy, PartialEq, Eq)]
-pub struct Queue {
-    pub stops: [u8; 8],
-    pub count: usize,
-}
-
-// Stays: tables of a fixed size with their counts. A world goes by value, and no call may run out of memory.
 #[derive(Clone, Copy)]
 pub struct World {
-    // the tables side by side, so that a copy of the world is one move of memory
-    pub stops: [f64; 64],
-    pub lines: [Line; 8],
-    pub cars: [Car; 16],
-    pub riders: [Rider; 128],
-    pub stop_count: usize,
-    pub line_count: usize,
-    pub car_count: usize,
-    pub rider_count: usize,
+    pub stops: Stops,
+    pub lines: Table<Line, 8>,
+    pub cars: Table<Car, 16>,
+    pub riders: Table<Rider, 128>,
     // hall calls standing: bit s is the call at stop s
     pub up_calls: u64,
     pub down_calls: u64,

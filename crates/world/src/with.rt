@@ -14,7 +14,7 @@ pub fn with_orders(
     target: Option<u8>,
     speed: Option<f64>,
 ) -> Car
-    ensures { result ≡ With.with_orders car phase mode car.enabled repositioning target speed car.destination_queue car.destination_count car.door_command_queue car.command_count }
+    ensures { result ≡ With.with_orders car phase mode car.enabled repositioning target speed car.destination_queue car.door_command_queue }
 {
     Car {
         phase,
@@ -34,21 +34,18 @@ pub fn with_arrived(
     target: Option<u8>,
     repositioning: bool,
     lamps: Lamps,
-    queue: Queue,
+    queue: Queue<u8>,
     cooldown: Option<u64>,
 ) -> Car
     ensures { result ≡ With.with_arrived car phase door target repositioning lamps queue cooldown }
 {
-    let stops = queue.stops;
     Car {
         phase,
         door,
         target_stop: target,
         repositioning,
-        going_up: lamps.going_up,
-        going_down: lamps.going_down,
-        destination_queue: stops,
-        destination_count: queue.count,
+        lamps,
+        destination_queue: queue,
         cooldown,
         ..car
     }
@@ -62,20 +59,17 @@ pub fn with_door(
     target: Option<u8>,
     lamps: Lamps,
     going_forward: bool,
-    commands: [DoorCommand; 8],
-    count: usize,
+    commands: Queue<DoorCommand>,
 ) -> Car
-    ensures { result ≡ With.with_door car phase door target lamps going_forward commands count }
+    ensures { result ≡ With.with_door car phase door target lamps going_forward commands }
 {
     Car {
         phase,
         door,
         target_stop: target,
-        going_up: lamps.going_up,
-        going_down: lamps.going_down,
+        lamps,
         going_forward,
         door_command_queue: commands,
-        command_count: count,
         ..car
     }
 }

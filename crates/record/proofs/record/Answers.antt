@@ -35,9 +35,9 @@ runs_at k e = rw (← e) k
 -- ---- refusal 0
 
 -- what the first loop has found
-looked : (w : World) (cars i : ℕ) (rest found : Bool) → cars ≡ min w.car_count 16 → i ≤ cars → cars ≤ i → rest ≡ rest_broken w → found ≡ (rest || cars_broken w i)
+looked : (w : World) (cars i : ℕ) (rest found : Bool) → cars ≡ min w.cars.count 16 → i ≤ cars → cars ≤ i → rest ≡ rest_broken w → found ≡ (rest || cars_broken w i)
     → broken w ≡ found
-looked w cars i rest found n h k r f = let e : i ≡ min w.car_count 16 = omega arith in in_places w rest (sym r) ∙ sym (rw e at f)
+looked w cars i rest found n h k r f = let e : i ≡ min w.cars.count 16 = omega arith in in_places w rest (sym r) ∙ sym (rw e at f)
 
 whole : (c : Else-broken) → broken c.args.world ≡ false
 whole c =
@@ -84,8 +84,8 @@ pub loop-i-2-preserved : goal.loop-i-2-preserved
 unfolding plus
 loop-i-2-preserved c =
     let s = c.loop-i-2 in
-    let n = min c.args.world.stop_count 64 in
-    let order : c.sorted_stops-sort.result ≡ sorted_table s.w.stops n =
+    let n = min c.args.world.stops.count 64 in
+    let order : c.sorted_stops-sort.result ≡ sorted_table s.w.stops.items n =
     c.sorted_stops-sort.ensures ∙ ap (λ (stops : List Float). sorted_table stops n) (sym (stops_kept s.invariant.1)) in
     let trip = c.trip_of-trip in
     let so_far : s.i + 1 ≤ c.min-cars.result = omega (arith, c.loop-i-2-test.true) in
@@ -135,7 +135,7 @@ loop-i-3-preserved c =
       elim c.if-has_turn.branch [
         | then-has_turn u ↦
             let t = u.door_turn-turned in
-            let h = turn_on_lem w.w w.i (car_at w.w.cars w.i) _ _ u.line_at-line.ensures (elim u.if-car-ne0.branch [ then-car-ne0 v ↦ inr (v.traversing-is ∙ v.has_rider_traversing-traversing.ensures) | else-car-ne0 v ↦ inl v.if-car-ne0.false ]) t.ensures in
+            let h = turn_on_lem w.w w.i (car_at w.w.cars.items w.i) _ _ u.line_at-line.ensures (elim u.if-car-ne0.branch [ then-car-ne0 v ↦ inr (v.traversing-is ∙ v.has_rider_traversing-traversing.ensures) | else-car-ne0 v ↦ inl v.if-car-ne0.false ]) t.ensures in
             same (more (step_of w.w t.result.car _ t.result.opened) w.invariant.1 (door_of_lem w.w w.i h) h.wrote) u.log-is u.w-is u.just_opened-is u.to-is
         | else-has_turn u ↦ same (passed w.invariant.1 (omega (arith, test, w.invariant.2)) (sym c.has_turn.ensures ∙ u.if-has_turn.false)) u.log-is u.w-is u.just_opened-is u.to-is
       ],
@@ -155,10 +155,10 @@ returns c =
     let t = c.loop-i-3 in
     let w = c.args.world in
     let n = c.min-cars.ensures in
-    let e : min w.car_count 16 ≡ s.i = omega (arith, n, c.loop-i-2-test.false, s.invariant.0) in
+    let e : min w.cars.count 16 ≡ s.i = omega (arith, n, c.loop-i-2-test.false, s.invariant.0) in
     let k = moves_at s.invariant.1 (sym e) in
-    let f : t.i ≡ min s.w.car_count 16 = omega (arith, n, c.loop-i-3-test.false, t.invariant.0, cars_kept k) in
-    let d : min c.min-cars.result 16 ≡ min s.w.car_count 16 = omega (arith, n, cars_kept k) in
+    let f : t.i ≡ min s.w.cars.count 16 = omega (arith, n, c.loop-i-3-test.false, t.invariant.0, cars_kept k) in
+    let d : min c.min-cars.result 16 ≡ min s.w.cars.count 16 = omega (arith, n, cars_kept k) in
     let r = ended (runs_at t.invariant.1 f) (cleared t.just_opened (calls_kept t.invariant.1) d c.clear_hall_calls-calls.ensures) in
     let x = doored_after c.in-Tick.dt w k r.0 r.1 in
     is_whole w _ _ (whole (goal.at.returns c).Else-broken) c.decode.ensures

@@ -17,4 +17,4 @@ returns c =
     let w = c.args.world in
     let f = rest_fits w (sym c.rest_broken.ensures ∙ c.if-rest_broken.false) in
     rw (in_parts w, ← c.rest_broken.ensures, c.if-rest_broken.false)
-    (c.cars_broken.ensures ∙ any_of_first (car_broken w.line_count w.stop_count) w.cars no_car w.car_count (search (rules, f.cars)))
+    (c.cars_broken.ensures ∙ any_of_first (car_broken w.lines.count w.stops.count) w.cars.items no_car w.cars.count (search (rules, f.cars)))

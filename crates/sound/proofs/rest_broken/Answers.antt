@@ -23,7 +23,7 @@ unfolding rest_broken
 returns c =
     let w = c.args.world in
     let f = fits (goal.at.returns c).Else-counts_broken in
-    let lines = c.lines_broken.ensures ∙ any_of_first (line_broken w.stop_count) w.lines no_line w.line_count (search (rules, f.lines)) in
-    let riders = c.riders_broken.ensures ∙ any_of_first (rider_broken w.stop_count w.car_count) w.riders no_rider w.rider_count (search (rules, f.riders)) in
+    let lines = c.lines_broken.ensures ∙ any_of_first (line_broken w.stops.count) w.lines.items no_line w.lines.count (search (rules, f.lines)) in
+    let riders = c.riders_broken.ensures ∙ any_of_first (rider_broken w.stops.count w.cars.count) w.riders.items no_rider w.riders.count (search (rules, f.riders)) in
     rw (← c.counts_broken.ensures, c.if-counts_broken.false, ← lines, ← riders, ← c.calls_unloaded.ensures, ← c.calls_unloaded-2.ensures)
     (sym (put_off c.lines_broken.result c.riders_broken.result c.calls_unloaded.result c.calls_unloaded-2.result))

@@ -8,5 +8,5 @@ use Rattle.sound_rows.proofs.car_broken.Goals as goal
 pub returns : goal.returns
 unfolding car_broken
 returns c =
-    let queue = c.one_unloaded.ensures ∙ any_of_first (unloaded c.args.stops) c.args.car.destination_queue 0 c.args.car.destination_count (search rules) in
-    rw (le-ltb 8 c.args.car.destination_count c.if-count-gt8.false, queue, c.option_unloaded.ensures, c.phase_unloaded.ensures, c.unloaded.ensures)
+    let queue = c.one_unloaded.ensures ∙ any_of_first (unloaded c.args.stops) c.args.car.destination_queue.items 0 c.args.car.destination_queue.count (search rules) in
+    rw (le-ltb 8 c.args.car.destination_queue.count c.if-count-gt8.false, queue, c.option_unloaded.ensures, c.phase_unloaded.ensures, c.unloaded.ensures)

@@ -8,5 +8,5 @@ use Rattle.sound_rows.proofs.line_broken.Goals as goal
 pub returns : goal.returns
 unfolding line_broken
 returns c =
-    rw (le-ltb 64 c.args.line.serves_count c.if-count-gt64.false)
-    (c.one_unloaded.ensures ∙ any_of_first (unloaded c.args.stops) c.args.line.serves 0 c.args.line.serves_count (search rules))
+    rw (le-ltb 64 c.args.line.serves.stops.count c.if-count-gt64.false)
+    (c.one_unloaded.ensures ∙ any_of_first (unloaded c.args.stops) c.args.line.serves.stops.items 0 c.args.line.serves.stops.count (search rules))
