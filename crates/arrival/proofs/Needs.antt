@@ -9,7 +9,7 @@ use lib.Ieee.{Float}
 use Rattle.std.proofs.lemmas.List.{get_or-take, length-take}
 use Rattle.world.specs.World.{stop_at, no_rider}
 use Rattle.world.specs.declared.Lamps.{Lamps}
-use Rattle.world.specs.declared.Queue.{Queue}
+use Rattle.world.specs.Tables.{Queue}
 use Rattle.world.specs.declared.Rider.{Rider}
 use Rattle.steps.specs.Steps.{unlit}
 use Rattle.arrival.specs.Arrival.{needing, needing_rider, riders_to, queued_to}
@@ -26,7 +26,7 @@ module _ (riders : List Rider) (stops : List Float) (number : ℕ) (stop : Float
       let g : n < count = omega (arith, simp length-take at h) in
       rw (add-one, ← e, ← get_or-take count riders n no_rider g) t
 
-module _ (queue : Queue) (stops : List Float) (l : Lamps) (stop : Float) where
+module _ (queue : Queue ℕ) (stops : List Float) (l : Lamps) (stop : Float) where
   pub no_entry : queued_to queue stops l stop 0 ≡ l
   unfolding queued_to
   no_entry = refl

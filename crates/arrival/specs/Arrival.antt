@@ -7,9 +7,10 @@ use Rattle.world.specs.declared.Rider.{Rider}
 use Rattle.std.specs.declared.option.Option.{Option}
 use Rattle.std.specs.declared.option.Option.TheVariants.{None, Some}
 use Rattle.world.specs.declared.LineKind.{LineKind}
-use Rattle.steps.specs.Steps.{both_lit, unlit, lamps_of}
+use Rattle.steps.specs.Steps.{both_lit, unlit}
 use Rattle.world.specs.declared.Lamps.{Lamps}
-use Rattle.world.specs.declared.Queue.{Queue}
+use Rattle.world.specs.declared.Table.{Table}
+use Rattle.world.specs.Tables.{Queue}
 use Rattle.trips.specs.Trips.{is_loop}
 use Rattle.trips.specs.declared.Trip.{Trip}
 use Rattle.trips.specs.declared.Trip.TheVariants.{Rests, Drives, GoesTo, Repositions}

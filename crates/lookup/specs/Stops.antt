@@ -7,7 +7,10 @@ use Rattle.world.specs.World.{stop_at, line_at}
 use Rattle.world.specs.declared.Line.{Line}
 use Rattle.std.specs.declared.option.Option.{Option}
 use Rattle.std.specs.declared.option.Option.TheVariants.{None, Some}
-use Rattle.lookup.specs.declared.stops.Serves.{Serves}
+use Rattle.world.specs.declared.Serves.{Serves}
+use Rattle.world.specs.declared.Table.{Table}
+use Rattle.world.specs.Tables.{Stops}
+use Rattle.world.specs.World.{serves_none}
 
 -- ---- the stop at a position
 

@@ -9,6 +9,7 @@ use Rattle.world.specs.declared.LineKind.{LineKind}
 use Rattle.world.specs.declared.LineKind.TheVariants.{Linear, Loop}
 use Rattle.std.specs.declared.option.Option.{Option}
 use Rattle.std.specs.declared.option.Option.TheVariants.{None, Some}
+use Rattle.world.specs.declared.Table.{Table}
 
 -- how far a stop is ahead: the whole circle where the car stands at it
 unfoldable pub ahead_of : Float → Float → Float → Float

@@ -111,8 +111,7 @@ pub fn record(world: World, words: &[u32], log: &mut [u32]) -> Recorded
             let mut lamps = car.lamps;
             if asks_work(trip, kind, result.arrived) {
                 let row = w.cars.items[i];
-                let riders = w.riders.items;
-                lamps = work_of(trip, riders, w.riders.count, row, &w.stops.items, number);
+                lamps = work_of(trip, &w.riders, row, &w.stops.items, number);
             }
             let told = tell(
                 log, to, number, trip, kind, car, result, lamps, &sort, &w.stops.items, stop_count,
@@ -141,12 +140,9 @@ pub fn record(world: World, words: &[u32], log: &mut [u32]) -> Recorded
             if car.door_command_queue.count != 0 {
                 traversing = has_rider_traversing(&w.riders, number);
             }
-            let stop_count = w.stops.count;
-            let turned = door_turn(log, to, number, car, line, traversing, &w.stops.items, stop_count);
-            let next = turned.car;
-            let opened = turned.opened;
-            w.cars.items[i] = next;
-            just_opened[i] = opened;
+            let turned = door_turn(log, to, number, car, line, traversing, &w.stops);
+            w.cars.items[i] = turned.car;
+            just_opened[i] = turned.opened;
             to = turned.at;
         }
     }

@@ -16,6 +16,7 @@ use Rattle.world.specs.declared.Lamps.{Lamps}
 use Rattle.steps.specs.declared.JustOpened.{JustOpened}
 use Rattle.laws.specs.Numbers.{plus}
 use Rattle.world.specs.With.{placed, with_turn}
+use Rattle.world.specs.World.{serves_none}
 
 -- a car's line; past the table a linear one without a list, which refusal 0 keeps away
 unfoldable pub line_of : List Line → ℕ → Line

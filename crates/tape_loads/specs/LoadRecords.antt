@@ -15,6 +15,7 @@ use Rattle.tape_records.specs.declared.Record.TheVariants as Record
 use Rattle.tape_records.specs.declared.Read.TheVariants.{Accepted}
 use Rattle.tape_records.specs.Answers.{not_stop, not_line, not_car, not_rider, nonzero, million, thousand, ten, accepted, Deed}
 use Rattle.tape_loads.specs.declared.RiderBody.{RiderBody}
+use Rattle.world.specs.declared.Line.{Line}
 
 -- ---- 1 line: n number; s 0 linear, 1 loop; v count of served stops, at most 64, or 65,535 for no list
 
