@@ -31,7 +31,7 @@ module _ (queue : Queue ℕ) (stops : List Float) (l : Lamps) (stop : Float) whe
   unfolding queued_to
   no_entry = refl
 
-  pub one_entry : (n : ℕ) → queued_to queue stops l stop (n + 1) ≡ needing (queued_to queue stops l stop n) (stop_at stops (get_or queue.stops n 0)) stop
+  pub one_entry : (n : ℕ) → queued_to queue stops l stop (n + 1) ≡ needing (queued_to queue stops l stop n) (stop_at stops (get_or queue.items n 0)) stop
   unfolding queued_to
   one_entry n = rw add-one
 

@@ -20,7 +20,7 @@ use Rattle.std.specs.declared.option.Option.{Option}
 use Rattle.std.specs.declared.option.Option.TheVariants.{None, Some}
 use Rattle.log_words.specs.Words.{word, code_of, ticks_of}
 use Rattle.laws.specs.Numbers.{bit}
-use Rattle.steps.specs.Steps.{is_manual, is_inspection, lamps_of, both_lit, unlit, update_indicators}
+use Rattle.steps.specs.Steps.{is_manual, is_inspection, both_lit, unlit, update_indicators}
 use Rattle.world.specs.declared.Lamps.{Lamps}
 use Rattle.trips.specs.Trips.{trip_by, trip_of, is_trip}
 use Rattle.trips.specs.Spans.{moving_up}
@@ -84,8 +84,8 @@ move_told n o w i b =
     let c : Car = car_at w.cars.items i in
     move_cases (λ s. Told n o o s.words) w i (told_none n o)
     (λ e trip kind r. passing_told i (b e) (moving_up kind c.motion.position r.position) _)
-    (λ e s kind r lamps. told_join (b e 2 s 0 refl refl) (lamps_told n o i (lamps_of c) lamps))
-    (λ e s kind r lamps. told_join (b e 3 s 0 refl refl) (told_join (told_dull n o 4 i s 0 refl refl refl) (lamps_told n o i (lamps_of c) both_lit)))
+    (λ e s kind r lamps. told_join (b e 2 s 0 refl refl) (lamps_told n o i c.lamps lamps))
+    (λ e s kind r lamps. told_join (b e 3 s 0 refl refl) (told_join (told_dull n o 4 i s 0 refl refl refl) (lamps_told n o i c.lamps both_lit)))
 
 -- they say nothing of another car
 pub move_silent : (dt : Float) (w : World) (i n : ℕ) → i < 16 → (n ≡ i → ⊥) → Silent n (move_of dt w i).words
@@ -136,7 +136,7 @@ module _ (w : World) (i : ℕ) (o : Bool) (low : i < 16) (f : Fit (car_at w.cars
 -- ---- door commands
 
 commands_sound : (c : Car) (at traversing : Bool) (o : Bool) → Sound c.phase c.door o
-    → Sound (process_door_commands c at traversing).phase (process_door_commands c at traversing).door o
+    → Sound (process_door_commands c at traversing).phase (process_door_commands c at traversing).doorway.door o
 commands_sound c at traversing o = commands_keep (λ p d. Sound p d o) (λ a b. opening) (λ a. closing) (λ a b cd s. loading) c at traversing
 
 words_told : (n : ℕ) (o : Bool) (c : Car) (at traversing : Bool) (i m : ℕ) → Told n o o (work_words_to c at traversing i m)
@@ -157,8 +157,8 @@ departed_told n o (Some s) i = told_dull n o 8 i s 0 refl refl refl
 -- the words of a car whose door has closed, by the first
 closed_told : {n : ℕ} {o o' : Bool} (i : ℕ) (c : Car) (k : Work) (next : Option ℕ) (d : DoorState) → Told n o o' (word 7 i 0 0 ∷ [])
     → Told n o o' (finished_closing next i c k d).words
-closed_told {n} {o} {o'} i c k None d t = told_join t (lamps_told n o' i (lamps_of c) both_lit)
-closed_told {n} {o} {o'} i c k (Some s) d t = told_join t (told_join (lamps_told n o' i (lamps_of c) unlit) (departed_told n o' c.target_stop i))
+closed_told {n} {o} {o'} i c k None d t = told_join t (lamps_told n o' i c.lamps both_lit)
+closed_told {n} {o} {o'} i c k (Some s) d t = told_join t (told_join (lamps_told n o' i c.lamps unlit) (departed_told n o' c.target_stop i))
 
 module _ (i : ℕ) (low : i < 16) (c : Car) (tame : is_manual c.service_mode ≡ false) (k : Work) where
   abbrev Turns : Bool → Turn → Type 0
@@ -206,7 +206,7 @@ door_turn_lem i low c at traversing next o f =
     let k : Work = process_door_commands c at traversing in
     both (λ (t : Turn). Good i o t.car t.words) c.enabled
     (after_good (words_told i o c at traversing i (min c.door_command_queue.count 8))
-    (door_by_lem i low c f.tame k next k.phase k.door o (commands_sound c at traversing o f.sound)))
+    (door_by_lem i low c f.tame k next k.doorway.phase k.doorway.door o (commands_sound c at traversing o f.sound)))
     (still i o c f)
 
 pub door_good : (w : World) (i : ℕ) (o : Bool) → i < 16 → Fit (car_at w.cars.items i) o → Good i o (door_of w i).car (door_of w i).words

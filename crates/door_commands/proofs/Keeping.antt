@@ -10,8 +10,10 @@ use Rattle.world.specs.declared.Car.{Car}
 use Rattle.world.specs.declared.ElevatorPhase.{ElevatorPhase}
 use Rattle.world.specs.declared.ElevatorPhase.TheVariants.{Idle, MovingToStop, Repositioning, DoorOpening, Loading, DoorClosing, Stopped}
 use Rattle.laws.proofs.Choices.{both}
-use Rattle.door_commands.specs.Commands.{apply_open, apply_close, held, apply_hold, unheld, apply_cancel_hold, try_apply_command, queued, tried_on, work_to, process_door_commands}
-use Rattle.door_commands.specs.declared.Tried.{Tried}
+use Rattle.door_commands.specs.Commands.{apply_open, apply_close, held, apply_hold, unheld, apply_cancel_hold, try_apply_command, queued, tried_on, worked, work_to, process_door_commands}
+use Rattle.door_commands.specs.declared.Doorway.{Doorway}
+use Rattle.std.specs.declared.option.Option.{Option}
+use Rattle.std.specs.declared.option.Option.TheVariants.{None, Some}
 use Rattle.door_commands.specs.declared.Work.{Work}
 
 module _
@@ -22,24 +24,26 @@ module _
     (c : Car)
     (here traversing : Bool)
   where
-    abbrev Keeps : Tried → Type 0
-    Keeps t = Has t.phase t.door
+    -- what a command leaves of them, where it is applied
+    abbrev Keeps : Option Doorway → Type 0
+    Keeps None = Unit {0}
+    Keeps (Some d) = Has d.phase d.door
 
     open_keeps : (p : ElevatorPhase) (d : DoorState) → Has p d → Keeps (apply_open p d c here)
-    open_keeps Idle d h = both Keeps here (opening _ _) h
-    open_keeps (MovingToStop s) d h = h
-    open_keeps (Repositioning s) d h = h
+    open_keeps Idle d h = both Keeps here (opening _ _) tt
+    open_keeps (MovingToStop s) d h = tt
+    open_keeps (Repositioning s) d h = tt
     open_keeps DoorOpening d h = h
     open_keeps Loading d h = h
     open_keeps DoorClosing d h = opening _ _
-    open_keeps Stopped d h = both Keeps here (opening _ _) h
+    open_keeps Stopped d h = both Keeps here (opening _ _) tt
 
     close_keeps : (p : ElevatorPhase) (d : DoorState) → Has p d → Keeps (apply_close p d c traversing)
     close_keeps Idle d h = h
     close_keeps (MovingToStop s) d h = h
     close_keeps (Repositioning s) d h = h
-    close_keeps DoorOpening d h = h
-    close_keeps Loading d h = both Keeps traversing h (closing _)
+    close_keeps DoorOpening d h = tt
+    close_keeps Loading d h = both Keeps traversing tt (closing _)
     close_keeps DoorClosing d h = h
     close_keeps Stopped d h = h
 
@@ -53,7 +57,7 @@ module _
     hold_keeps Idle d ticks h = h
     hold_keeps (MovingToStop s) d ticks h = h
     hold_keeps (Repositioning s) d ticks h = h
-    hold_keeps DoorOpening d ticks h = h
+    hold_keeps DoorOpening d ticks h = tt
     hold_keeps Loading d ticks h = held_keeps d ticks h
     hold_keeps DoorClosing d ticks h = h
     hold_keeps Stopped d ticks h = h
@@ -79,15 +83,20 @@ module _
     try_keeps (Command.HoldOpen ticks) p d h = hold_keeps p d ticks h
     try_keeps Command.CancelHold p d h = cancel_keeps p d h
 
-    work_keeps : (n : ℕ) → Has c.phase c.door → Has (work_to c here traversing n).phase (work_to c here traversing n).door
+    worked_keeps : (k : Work) (q : DoorCommand) (t : Option Doorway) → Has k.doorway.phase k.doorway.door → Keeps t
+        → Has (worked k q t).doorway.phase (worked k q t).doorway.door
+    worked_keeps k q None h g = h
+    worked_keeps k q (Some d) h g = g
+
+    work_keeps : (n : ℕ) → Has c.phase c.door → Has (work_to c here traversing n).doorway.phase (work_to c here traversing n).doorway.door
     unfolding work_to
     work_keeps zero h = h
     work_keeps (suc n) h =
         let k : Work = work_to c here traversing n in
         let q : DoorCommand = queued c here traversing n in
-        let t : Keeps (tried_on c here traversing k q) = try_keeps q k.phase k.door (work_keeps n h) in
-        both (λ (x : Work). Has x.phase x.door) (tried_on c here traversing k q).applied t t
+        let g : Has k.doorway.phase k.doorway.door = work_keeps n h in
+        worked_keeps k q (tried_on c here traversing k q) g (try_keeps q k.doorway.phase k.doorway.door g)
 
-    pub commands_keep : Has c.phase c.door → Has (process_door_commands c here traversing).phase (process_door_commands c here traversing).door
+    pub commands_keep : Has c.phase c.door → Has (process_door_commands c here traversing).doorway.phase (process_door_commands c here traversing).doorway.door
     unfolding process_door_commands
     commands_keep = work_keeps (min c.door_command_queue.count 8)

@@ -19,7 +19,7 @@ module _
     (c : Car)
     (k : Work)
     (next : Option ℕ)
-    (waits : (d : DoorState) → P (rests c k k.phase d))
+    (waits : (d : DoorState) → P (rests c k k.doorway.phase d))
     (opened : (d : DoorState) → P (finished_opening i c k d))
     (closing : (d : DoorState) → P (rests c k DoorClosing d))
     (stops : (d : DoorState) → P (finished_closing None i c k d))
@@ -29,11 +29,11 @@ module _
     closed None d e = stops d
     closed (Some s) d e = departs s d e
 
-    finished : (t : DoorTransition) (d : DoorState) → P (finish_by t k.phase d i c k next)
+    finished : (t : DoorTransition) (d : DoorState) → P (finish_by t k.doorway.phase d i c k next)
     finished Transition.None d = waits d
     finished Transition.FinishedOpening d = opened d
     finished Transition.FinishedOpen d = closing d
     finished Transition.FinishedClosing d = closed next d refl
 
-    pub door_cases : P (door_by k.phase k.door i c k next)
-    door_cases = both P (stays k.phase k.door c) (waits k.door) (finished (tick k.door).transition (tick k.door).door)
+    pub door_cases : P (door_by k.doorway.phase k.doorway.door i c k next)
+    door_cases = both P (stays k.doorway.phase k.doorway.door c) (waits k.doorway.door) (finished (tick k.doorway.door).transition (tick k.doorway.door).door)

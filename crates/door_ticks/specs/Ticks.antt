@@ -13,7 +13,7 @@ use Rattle.std.specs.declared.option.Option.TheVariants.{None, Some}
 use Rattle.log_words.specs.Words.{word_of}
 use Rattle.log_writes.specs.Log.{Wrote}
 use Rattle.log_words.specs.declared.Event.TheVariants.{DoorOpened, DoorClosed, ElevatorDeparted}
-use Rattle.steps.specs.Steps.{is_inspection, lamps_of, both_lit, unlit, update_indicators, not_opened}
+use Rattle.steps.specs.Steps.{is_inspection, both_lit, unlit, update_indicators, not_opened}
 use Rattle.world.specs.With.{with_door}
 use Rattle.steps.specs.declared.JustOpened.{JustOpened}
 use Rattle.door_commands.specs.declared.Work.{Work}

@@ -19,7 +19,7 @@ use Rattle.std.specs.declared.option.Option.{Option}
 use Rattle.next_stop.specs.NextStop.{loop_next_stop_for_car}
 use Rattle.log_writes.specs.Log.{Wrote}
 use Rattle.log_writes.proofs.Writing.{wrote_none, also}
-use Rattle.steps.specs.Steps.{Step, line_of, lamps_of, not_opened, step_of, stepped, run_to, run_cars}
+use Rattle.steps.specs.Steps.{Step, line_of, not_opened, step_of, stepped, run_to, run_cars}
 use Rattle.steps.proofs.Cars.{by_turns, stepped_same}
 use Rattle.world.specs.With.{with_door}
 use Rattle.steps.specs.declared.JustOpened.{JustOpened}
@@ -28,6 +28,8 @@ use Rattle.doors_system.specs.Doors.{turn_by, door_turn, has_turn, turn_on, step
 use Rattle.door_ticks.specs.Ticks.{Turn, turned, rested, stays, Turns}
 use Rattle.hall_calls.specs.Clearing.{Clears, clear_to, clear_words_to}
 use Rattle.door_commands.specs.declared.Work.{Work}
+use Rattle.door.specs.declared.DoorCommand.{DoorCommand}
+use Rattle.world.specs.Tables.{Queue}
 use Rattle.door_ticks.specs.declared.Turned.{Turned}
 use Rattle.hall_calls.specs.declared.Calls.{Calls}
 use Rattle.door_commands.proofs.Working.{no_work, no_words}
@@ -97,9 +99,12 @@ quiet true true true h f = f refl refl
 quiet true true false h f = absurd (true≢false h)
 quiet true false stays h f = absurd (true≢false h)
 
+abbrev with_count : Car → ℕ → Queue DoorCommand
+with_count c n = record { items = c.door_command_queue.items; count = n }
+
 -- a car with its own number of commands
-as_it_is : (c : Car) (n : ℕ) → n ≡ c.door_command_queue.count → with_door c c.phase c.door c.target_stop (lamps_of c) c.going_forward c.door_command_queue.items n ≡ c
-as_it_is c n e = ap (λ (m : ℕ). with_door c c.phase c.door c.target_stop (lamps_of c) c.going_forward c.door_command_queue.items m) e
+as_it_is : (c : Car) (n : ℕ) → n ≡ c.door_command_queue.count → with_door c c.phase c.door c.target_stop c.lamps c.going_forward (with_count c n) ≡ c
+as_it_is c n e = ap (λ (m : ℕ). with_door c c.phase c.door c.target_stop c.lamps c.going_forward (with_count c m)) e
 
 resting : (i : ℕ) (c : Car) (k : Work) (words : List ℕ) (next : Option ℕ) → k ≡ unworked c → words ≡ [] → stays c.phase c.door c ≡ true
     → turn_by i c k words next ≡ turned (rested c (unworked c) c.phase c.door) [] not_opened

@@ -15,7 +15,7 @@ use Rattle.hall_calls.specs.Clearing.{Standing, standing_in, clear_to, clear_wor
 
 -- run, for one car: "queued commands, loop's next stop, then the door's tick"
 abbrev pub turn_by : ℕ → Car → Work → List ℕ → Option ℕ → Turn
-turn_by i c k words next = after words (door_by k.phase k.door i c k next)
+turn_by i c k words next = after words (door_by k.doorway.phase k.doorway.door i c k next)
 
 -- "disabled skipped"
 abbrev pub door_turn : ℕ → Car → Bool → Bool → Option ℕ → Turn

@@ -183,5 +183,6 @@ module _ (cars : List Car) (me line : ℕ) (pos circumference : Float) where
 
 pub leader_is_nearest : LeaderIsNearest
 unfolding LeaderIsNearest loop_leader_pos
-leader_is_nearest cars count me line pos circumference =
-    led cars me line pos circumference count (leader_to cars me line pos circumference (min count 16)) (best cars me line pos circumference (min count 16))
+leader_is_nearest cars me line pos circumference =
+    led cars.items me line pos circumference cars.count (leader_to cars.items me line pos circumference (min cars.count 16))
+    (best cars.items me line pos circumference (min cars.count 16))

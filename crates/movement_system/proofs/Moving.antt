@@ -20,7 +20,7 @@ use Rattle.std.specs.declared.option.Option.{Option}
 use Rattle.std.specs.declared.option.Option.TheVariants.{None, Some}
 use Rattle.log_writes.specs.Log.{Wrote}
 use Rattle.log_writes.proofs.Writing.{also, wrote_none}
-use Rattle.steps.specs.Steps.{Step, line_of, lamps_of, step_of, stepped, not_opened, run_to, run_cars}
+use Rattle.steps.specs.Steps.{Step, line_of, step_of, stepped, not_opened, run_to, run_cars}
 use Rattle.world.specs.With.{placed}
 use Rattle.laws.specs.Numbers.{plus}
 use Rattle.steps.specs.declared.JustOpened.{JustOpened}
@@ -80,7 +80,7 @@ pub moves : (dt : Float) (w : World) (i : ℕ) (trip : Trip) (kind : LineKind) (
     → trip ≡ trip_of (car_at w.cars.items i) → kind ≡ (line_of w.lines.items (car_at w.cars.items i).line).kind
     → (is_loop kind ≡ false) ⊎ (leader ≡ leader_of kind w.cars i (car_at w.cars.items i))
     → r ≡ landing trip kind leader (car_at w.cars.items i) w.stops.items dt
-    → ((asks_work trip kind r.arrived ≡ false) × (lamps ≡ lamps_of (car_at w.cars.items i)))
+    → ((asks_work trip kind r.arrived ≡ false) × (lamps ≡ (car_at w.cars.items i).lamps))
     ⊎ ((asks_work trip kind r.arrived ≡ true) × (lamps ≡ work_of trip w.riders (car_at w.cars.items i) w.stops.items i))
     → move_of dt w i ≡ move_by w i trip kind r lamps
 unfolding move_of
@@ -88,7 +88,7 @@ moves dt w i trip kind leader r lamps et ek lead er wk =
     let c = car_at w.cars.items i in
     let a : r ≡ landing trip kind (leader_of kind w.cars i c) c w.stops.items dt =
     er ∙ ⊎_elim (λ z. any_leader trip kind leader _ c w.stops.items dt z) (λ z. rw z) lead in
-    let b : lamps ≡ cond (asks_work trip kind r.arrived) (work_of trip w.riders c w.stops.items i) (lamps_of c) =
+    let b : lamps ≡ cond (asks_work trip kind r.arrived) (work_of trip w.riders c w.stops.items i) c.lamps =
     ⊎_elim (λ z. z.1 ∙ rw z.0) (λ z. z.1 ∙ rw z.0) wk in
     rw (← et, ← ek, ← a, ← b)
 
@@ -123,14 +123,10 @@ comes_to cs i p v m trip lamps tick =
 
 abbrev pub after : World → List Car → ℕ → Float → World
 after w cars total distance = record {
-  stops = w.stops.items;
-  stop_count = w.stops.count;
-  lines = w.lines.items;
-  line_count = w.lines.count;
-  cars = cars;
-  car_count = w.cars.count;
-  riders = w.riders.items;
-  rider_count = w.riders.count;
+  stops = w.stops;
+  lines = w.lines;
+  cars = record { items = cars; count = w.cars.count };
+  riders = w.riders;
   up_calls = w.up_calls;
   down_calls = w.down_calls;
   started = w.started;
@@ -151,12 +147,8 @@ pub more : {turn : World → ℕ → Step} {world w w' : World} {l l' l'' : List
 unfolding run_to
 more k e f h = record { left = f ∙ rw (add-one, ← k.left, ← e); wrote = rw (add-one, ← k.left) (also k.wrote (rw (← e) at h)) }
 
-pub stops_kept : {turn : World → ℕ → Step} {world w : World} {l l' : List ℕ} {at i to : ℕ} → Moves turn world l at i w l' to → w.stops.items ≡ world.stops.items
-stops_kept {turn} {world} {w} {l} {l'} {at} {i} k = ap (λ (z : World). z.stops.items) k.left ∙ kept turn world (λ (z : World). z.stops.items) (λ v j s. refl) i
-
-pub count_kept : {turn : World → ℕ → Step} {world w : World} {l l' : List ℕ} {at i to : ℕ} → Moves turn world l at i w l' to
-    → w.stops.count ≡ world.stops.count
-count_kept {turn} {world} {w} {l} {l'} {at} {i} k = ap (λ (z : World). z.stops.count) k.left ∙ kept turn world (λ (z : World). z.stops.count) (λ v j s. refl) i
+pub stops_kept : {turn : World → ℕ → Step} {world w : World} {l l' : List ℕ} {at i to : ℕ} → Moves turn world l at i w l' to → w.stops ≡ world.stops
+stops_kept {turn} {world} {w} {l} {l'} {at} {i} k = ap (λ (z : World). z.stops) k.left ∙ kept turn world (λ (z : World). z.stops) (λ v j s. refl) i
 
 pub cars_kept : {turn : World → ℕ → Step} {world w : World} {l l' : List ℕ} {at i to : ℕ} → Moves turn world l at i w l' to
     → w.cars.count ≡ world.cars.count
@@ -188,7 +180,7 @@ pub goes_on_lem : (dt : Float) (world w w' : World) (l l' l'' l''' : List ℕ) (
     → (((car_at w.cars.items i).line < 8) × (kind ≡ (line_at w.lines.items (car_at w.cars.items i).line).kind)) ⊎ ((8 ≤ (car_at w.cars.items i).line) × (kind ≡ Linear))
     → (is_loop kind ≡ false) ⊎ (leader ≡ leader_of kind w.cars i (car_at w.cars.items i))
     → r ≡ landing trip kind leader (car_at w.cars.items i) w.stops.items dt
-    → ((asks_work trip kind r.arrived ≡ false) × (lamps ≡ lamps_of (car_at w.cars.items i)))
+    → ((asks_work trip kind r.arrived ≡ false) × (lamps ≡ (car_at w.cars.items i).lamps))
     ⊎ ((asks_work trip kind r.arrived ≡ true) × (lamps ≡ work_of trip w.riders (car_at w.cars.items i) w.stops.items i))
     → Tells (words_by trip i kind w.stops.items n (car_at w.cars.items i) r lamps) (moves_by trip kind w.stops.items n (car_at w.cars.items i) r) l' to l'' x
     → m ≡ plus (car_at w.cars.items i).move_count x.count → total ≡ plus w.total_moves x.count
@@ -199,7 +191,7 @@ goes_on_lem dt world w w' l l' l'' l''' at i n to to' trip kind leader r lamps x
     let f : comes trip r.arrived ≡ false = rw er (came trip kind leader (car_at w.cars.items i) w.stops.items dt t) ∙ h in
     let e : move_of dt w i ≡ passes w i trip kind r =
     moves dt w i trip kind leader r lamps et (kind_of_lem w.lines.items (car_at w.cars.items i).line kind ek) lead er wk ∙ rw (t, f) in
-    let n' : n ≡ min w.stops.count 64 = en ∙ rw (count_kept k) in
+    let n' : n ≡ min w.stops.count 64 = en ∙ rw (stops_kept k) in
     let tells = rw (n', f) at told in
     let left : w' ≡ stepped w i (passes w i trip kind r) =
     ew ∙ ap (λ (z : List Car). after w z total distance) (lands w.cars.items i r.position r.velocity m) ∙ rw (em, eo, ed, tells.count) in
@@ -212,7 +204,7 @@ pub comes_in : (dt : Float) (world w w' : World) (l l' l'' l''' : List ℕ) (at 
     → (((car_at w.cars.items i).line < 8) × (kind ≡ (line_at w.lines.items (car_at w.cars.items i).line).kind)) ⊎ ((8 ≤ (car_at w.cars.items i).line) × (kind ≡ Linear))
     → (is_loop kind ≡ false) ⊎ (leader ≡ leader_of kind w.cars i (car_at w.cars.items i))
     → r ≡ landing trip kind leader (car_at w.cars.items i) w.stops.items dt
-    → ((asks_work trip kind r.arrived ≡ false) × (lamps ≡ lamps_of (car_at w.cars.items i)))
+    → ((asks_work trip kind r.arrived ≡ false) × (lamps ≡ (car_at w.cars.items i).lamps))
     ⊎ ((asks_work trip kind r.arrived ≡ true) × (lamps ≡ work_of trip w.riders (car_at w.cars.items i) w.stops.items i))
     → Tells (words_by trip i kind w.stops.items n (car_at w.cars.items i) r lamps) (moves_by trip kind w.stops.items n (car_at w.cars.items i) r) l' to l'' x
     → m ≡ plus (car_at w.cars.items i).move_count x.count → total ≡ plus w.total_moves x.count

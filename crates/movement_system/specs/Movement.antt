@@ -7,7 +7,7 @@ use Rattle.world.specs.declared.LineKind.{LineKind}
 use Rattle.world.specs.declared.Lamps.{Lamps}
 use Rattle.sorted.specs.Sorted.{sorted_stops}
 use Rattle.laws.specs.Numbers.{plus}
-use Rattle.steps.specs.Steps.{line_of, lamps_of, with_moved, Step, step_of, not_opened, Run, run_cars}
+use Rattle.steps.specs.Steps.{line_of, with_moved, Step, step_of, not_opened, Run, run_cars}
 use Rattle.trips.specs.Trips.{trip_of, is_trip}
 use Rattle.trips.specs.Spans.{moving_up}
 use Rattle.trips.specs.declared.Trip.{Trip}
@@ -41,7 +41,7 @@ arrives w i trip kind r lamps =
     let c = car_at w.cars.items i in
     record {
       car = come trip (with_moved c r.position r.velocity 1) lamps w.ticks;
-      words = coming_words trip i (lamps_of c) lamps;
+      words = coming_words trip i c.lamps lamps;
       total = plus w.total_moves 1;
       distance = distance_by trip kind w.reposition_distance c.motion.position r.position;
       opened = not_opened;
@@ -64,7 +64,7 @@ move_of dt w i =
     let trip = trip_of c in
     let kind = (line_of w.lines.items c.line).kind in
     let r = landing trip kind (leader_of kind w.cars i c) c w.stops.items dt in
-    let lamps = cond (asks_work trip kind r.arrived) (work_of trip w.riders c w.stops.items i) (lamps_of c) in
+    let lamps = cond (asks_work trip kind r.arrived) (work_of trip w.riders c w.stops.items i) c.lamps in
     move_by w i trip kind r lamps
 
 unfoldable pub moved : World → Float → Run

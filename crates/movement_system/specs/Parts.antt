@@ -4,7 +4,6 @@ use Rattle.motion.specs.declared.movement.MovementResult.{MovementResult}
 use Rattle.world.specs.declared.Car.{Car}
 use Rattle.world.specs.declared.LineKind.{LineKind}
 use Rattle.log_writes.specs.Log.{Wrote}
-use Rattle.steps.specs.Steps.{lamps_of}
 use Rattle.world.specs.declared.Lamps.{Lamps}
 use Rattle.float.specs.Float as Float
 use Rattle.trips.specs.Spans.{moving_up}
@@ -32,7 +31,7 @@ abbrev pub words_by : Trip → ℕ → LineKind → List Float → ℕ → Car �
 words_by trip i kind stops n c r lamps =
     cond
     (comes trip r.arrived)
-    (coming_words trip i (lamps_of c) lamps)
+    (coming_words trip i c.lamps lamps)
     (passing_words i (moving_up kind c.motion.position r.position) (passed_by trip kind stops n c.motion.position r))
 
 abbrev pub moves_by : Trip → LineKind → List Float → ℕ → Car → MovementResult → ℕ

@@ -123,7 +123,7 @@ module _ (lines stops i : ℕ) (c : Car) (h : CarIn lines stops c) where
   pub door_in : (here traversing : Bool) (next : Option ℕ) → stop_unloaded stops next ≡ false → Leaves (door_turn i c here traversing next)
   door_in here traversing next m =
       both Leaves c.enabled
-      (door_cases Leaves i c k next (λ d. rests_in k.phase d (commands_keep (λ p d. phase_unloaded stops p ≡ false) (λ a b. refl) (λ a. refl) (λ a b cd l. l) c here traversing h.phase))
+      (door_cases Leaves i c k next (λ d. rests_in k.doorway.phase d (commands_keep (λ p d. phase_unloaded stops p ≡ false) (λ a b. refl) (λ a. refl) (λ a b cd l. l) c here traversing h.phase))
       (λ d. rests_in Loading d refl) (λ d. rests_in DoorClosing d refl)
       (λ d. record { commands = few; line = h.line; phase = refl; target = refl; queue = h.queue })
       (λ s d e. let l : unloaded stops s ≡ false = rw e at m in record { commands = few; line = h.line; phase = l; target = l; queue = h.queue }))

@@ -9,6 +9,8 @@ use lib.Ieee.{Float, le}
 use Rattle.float.specs.Float.{is_finite}
 use Rattle.motion.specs.Cyclic.{degenerate}
 use Rattle.world.specs.World.{stop_at}
+use Rattle.world.specs.declared.Table.{Table}
+use Rattle.world.specs.Tables.{Stops}
 use Rattle.lookup.specs.Stops.{stands_at, first_standing, find_stop_at_position, find_stop_at_position_in}
 use Rattle.next_stop.specs.NextStop.{ahead_of, nearer, nearest_to, stop_of, loop_next_stop_forward}
 use Rattle.std.specs.declared.option.Option.TheVariants.{None, Some}
@@ -32,17 +34,17 @@ first_among stops position candidate (suc m) i s h =
     by true k f = (i, (omega arith, omega arith, cc))
     by false k f = let r = f k in (r.0, (omega (arith, r.1.0), omega (arith, r.1.1), r.1.2))
 
-pub found_is_loaded : (stops : List Float) (count : ℕ) (position : Float) (s : ℕ) → find_stop_at_position stops count position ≡ Some s → s < min count 64
+pub found_is_loaded : (stops : Stops) (position : Float) (s : ℕ) → find_stop_at_position stops position ≡ Some s → s < min stops.count 64
 unfolding find_stop_at_position
-found_is_loaded stops count position s h =
-    let r = first_among stops position (λ (k : ℕ). k) (min count 64) 0 s h in
+found_is_loaded stops position s h =
+    let r = first_among stops.items position (λ (k : ℕ). k) (min stops.count 64) 0 s h in
     omega (arith, r.1.1, r.1.2)
 
-pub found_is_served : (stops : List Float) (position : Float) (serves : List ℕ) (count s : ℕ) → find_stop_at_position_in stops position serves count ≡ Some s
-    → (j : ℕ) × ((j < min count 64) × (get_or serves j 0 ≡ s))
+pub found_is_served : (stops : List Float) (position : Float) (serves : Table ℕ 64) (s : ℕ) → find_stop_at_position_in stops position serves ≡ Some s
+    → (j : ℕ) × ((j < min serves.count 64) × (get_or serves.items j 0 ≡ s))
 unfolding find_stop_at_position_in
-found_is_served stops position serves count s h =
-    let r = first_among stops position (λ (i : ℕ). get_or serves i 0) (min count 64) 0 s h in
+found_is_served stops position serves s h =
+    let r = first_among stops position (λ (i : ℕ). get_or serves.items i 0) (min serves.count 64) 0 s h in
     (r.0, (omega (arith, r.1.1), r.1.2))
 
 -- the nearer is the best so far, or the new one
@@ -68,11 +70,12 @@ nearest_is_served stops circumference serves position (suc n) s h =
     (λ k. let r = nearest_is_served stops circumference serves position n s k in (r.0, (omega (arith, r.1.0), r.1.1)))
     (λ e. (n, (omega arith, e)))
 
-pub next_is_served : (stops : List Float) (circumference : Float) (serves : List ℕ) (count : ℕ) (position : Float) (s : ℕ)
-    → loop_next_stop_forward stops circumference serves count position ≡ Some s → (j : ℕ) × ((j < min count 64) × (get_or serves j 0 ≡ s))
+pub next_is_served : (stops : List Float) (circumference : Float) (serves : Table ℕ 64) (position : Float) (s : ℕ)
+    → loop_next_stop_forward stops circumference serves position ≡ Some s → (j : ℕ) × ((j < min serves.count 64) × (get_or serves.items j 0 ≡ s))
 unfolding loop_next_stop_forward
-next_is_served stops circumference serves count position s h = by (not (is_finite position) || degenerate circumference) h
+next_is_served stops circumference serves position s h = by (not (is_finite position) || degenerate circumference) h
   where
-    by : (b : Bool) → cond b None (stop_of (nearest_to stops circumference serves position (min count 64))) ≡ Some s → (j : ℕ) × ((j < min count 64) × (get_or serves j 0 ≡ s))
+    by : (b : Bool) → cond b None (stop_of (nearest_to stops circumference serves.items position (min serves.count 64))) ≡ Some s
+        → (j : ℕ) × ((j < min serves.count 64) × (get_or serves.items j 0 ≡ s))
     by true k = none_is_no_stop s k
-    by false k = nearest_is_served stops circumference serves position (min count 64) s k
+    by false k = nearest_is_served stops circumference serves.items position (min serves.count 64) s k

@@ -26,4 +26,4 @@ module _ (turn : World → ℕ → Step) (w : World) where
 
 -- a car that is left as it is
 pub stepped_same : (w : World) (i : ℕ) → w ≡ stepped w i (step_of w (car_at w.cars.items i) [] not_opened)
-stepped_same w i = ap (λ (cars : List Car). with_cars w cars w.cars.count) (sym (set-get_or w.cars.items i no_car))
+stepped_same w i = ap (λ (cars : List Car). with_cars w (record { items = cars; count = w.cars.count })) (sym (set-get_or w.cars.items i no_car))

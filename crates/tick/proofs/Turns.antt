@@ -19,7 +19,7 @@ use Rattle.log_words.specs.Words.{word, word_of, code_of, ticks_of}
 use Rattle.laws.specs.Numbers.{bit}
 use Rattle.log_words.specs.declared.Event.TheVariants.{ElevatorIdle}
 use Rattle.read_back.proofs.Reading.{kind_word}
-use Rattle.steps.specs.Steps.{line_of, lamps_of, both_lit, unlit, update_indicators, Step, not_opened}
+use Rattle.steps.specs.Steps.{line_of, both_lit, unlit, update_indicators, Step, not_opened}
 use Rattle.laws.specs.Numbers.{plus}
 use Rattle.world.specs.declared.Lamps.{Lamps}
 use Rattle.trips.specs.Spans.{moving_up}
@@ -146,13 +146,13 @@ module _ (w : World) (i : ℕ) where
 
   arrived_fair : (s : ℕ) (kind : LineKind) (r : MovementResult) (lamps : Lamps) → Moves (arrives w i (GoesTo s) kind r lamps)
   arrived_fair s kind r lamps =
-      let q : Quiet 1 (update_indicators i (lamps_of c) lamps) = lamps_quiet i (lamps_of c) lamps in
+      let q : Quiet 1 (update_indicators i c.lamps lamps) = lamps_quiet i c.lamps lamps in
       one_fair (arrives w i (GoesTo s) kind r lamps) refl (omega (arith, q.size)) (one_move 2 i s 0 refl q) refl refl
 
   repositioned_fair : (s : ℕ) (kind : LineKind) (r : MovementResult) (lamps : Lamps) → Moves (arrives w i (Repositions s) kind r lamps)
   repositioned_fair s kind r lamps =
-      let q : Quiet 2 (word_of (ElevatorIdle i s) ∷ update_indicators i (lamps_of c) both_lit) =
-      quiet_join (quiet_one 4 i s 0 refl) (lamps_quiet i (lamps_of c) both_lit) in
+      let q : Quiet 2 (word_of (ElevatorIdle i s) ∷ update_indicators i c.lamps both_lit) =
+      quiet_join (quiet_one 4 i s 0 refl) (lamps_quiet i c.lamps both_lit) in
       one_fair (arrives w i (Repositions s) kind r lamps) refl (omega (arith, q.size)) (one_move 3 i s 0 refl q) refl refl
 
 pub move_fair : (dt : Float) (w : World) (i : ℕ) → Fair (min w.stops.count 64 + 3) 64 w.total_moves (car_at w.cars.items i) (move_of dt w i)
@@ -193,13 +193,13 @@ departed_quiet : (s : Option ℕ) (i : ℕ) → Quiet 1 (departed_from s i)
 departed_quiet None i = quiet_more (omega arith) quiet_none
 departed_quiet (Some s) i = quiet_one 8 i s 0 refl
 
-door_shuts : (i : ℕ) (c : Car) (k : Work) (next : Option ℕ) → Shuts c 3 (door_by k.phase k.door i c k next)
+door_shuts : (i : ℕ) (c : Car) (k : Work) (next : Option ℕ) → Shuts c 3 (door_by k.doorway.phase k.doorway.door i c k next)
 door_shuts i c k next =
     door_cases (Shuts c 3) i c k next (λ d. shuts c 3 quiet_none (omega arith) refl)
     (λ d. shuts c 3 (quiet_one 6 i 0 0 refl) (omega (arith, opened_most c.target_stop c)) refl)
     (λ d. shuts c 3 quiet_none (omega arith) refl)
-    (λ d. shuts c 3 (quiet_join (quiet_one 7 i 0 0 refl) (lamps_quiet i (lamps_of c) both_lit)) (omega arith) refl)
-    (λ s d e. shuts c 3 (quiet_join (quiet_one 7 i 0 0 refl) (quiet_join (lamps_quiet i (lamps_of c) unlit) (departed_quiet c.target_stop i))) (omega arith) refl)
+    (λ d. shuts c 3 (quiet_join (quiet_one 7 i 0 0 refl) (lamps_quiet i c.lamps both_lit)) (omega arith) refl)
+    (λ s d e. shuts c 3 (quiet_join (quiet_one 7 i 0 0 refl) (quiet_join (lamps_quiet i c.lamps unlit) (departed_quiet c.target_stop i))) (omega arith) refl)
 
 after_shuts : {c : Car} {ws : List ℕ} (t : Turn) → Quiet 8 ws → Shuts c 3 t → Shuts c 11 (after ws t)
 after_shuts {c} {ws} t q h = record {
@@ -213,7 +213,7 @@ unfolding how_many
 turn_shuts i c at_stop traversing next =
     let k : Work = process_door_commands c at_stop traversing in
     both (Shuts c 11) c.enabled
-    (after_shuts (door_by k.phase k.door i c k next) (commands_quiet c at_stop traversing i) (door_shuts i c k next))
+    (after_shuts (door_by k.doorway.phase k.doorway.door i c k next) (commands_quiet c at_stop traversing i) (door_shuts i c k next))
     (record { size = omega arith; none = refl; count = refl })
 
 step_fair : (w : World) (c : Car) (t : Turn) → Shuts c 11 t → Fair 11 0 w.total_moves c (step_by w t)

@@ -4,4 +4,4 @@ use Rattle.leader.proofs.Lead.{Held}
 use Rattle.leader.proofs.loop_leader_pos.Given as goal
 
 abbrev pub invariant-loop-i : goal.invariant-loop-i
-invariant-loop-i l = Held l.cars l.pos l.circumference (leader_to l.cars l.me l.line l.pos l.circumference l.i) l.found l.nearest l.position
+invariant-loop-i l = Held l.cars.items l.pos l.circumference (leader_to l.cars.items l.me l.line l.pos l.circumference l.i) l.found l.nearest l.position

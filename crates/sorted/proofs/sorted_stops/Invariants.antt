@@ -4,4 +4,4 @@ use Rattle.sorted.specs.Sorted.{sorted_table}
 use Rattle.sorted.proofs.sorted_stops.Given as goal
 
 abbrev pub invariant-loop-i : goal.invariant-loop-i
-invariant-loop-i l = l.order ≡ sorted_table l.stops l.i
+invariant-loop-i l = l.order ≡ sorted_table l.stops.items l.i

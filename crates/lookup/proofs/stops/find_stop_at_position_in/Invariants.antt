@@ -10,4 +10,4 @@ abbrev at : List ℕ → ℕ → ℕ
 at serves i = get_or serves i 0
 
 abbrev pub invariant-loop-s : goal.invariant-loop-s
-invariant-loop-s l = find_stop_at_position_in l.stops l.position l.serves l.serves_count ≡ first_standing l.stops l.position (at l.serves) (l.n - l.s-index) l.s-index
+invariant-loop-s l = find_stop_at_position_in l.stops l.position l.serves ≡ first_standing l.stops l.position (at l.serves.items) (l.n - l.s-index) l.s-index
