@@ -31,7 +31,7 @@ match_quiet : (o : Option JustOpened) (i : ℕ) (h : Standing) → Quiet (2 * on
 unfolding clear_word
 match_quiet None i h = quiet_none
 match_quiet (Some o) i h =
-    quiet_join (quiet_if (clears h.up o.stop o.going_up) 9 i o.stop (bit false) refl) (quiet_if (clears h.down o.stop o.going_down) 9 i o.stop (bit true) refl)
+    quiet_join (quiet_if (clears h.up o.stop o.lamps.going_up) 9 i o.stop (bit false) refl) (quiet_if (clears h.down o.stop o.lamps.going_down) 9 i o.stop (bit true) refl)
 
 calls_quiet : (os : List (Option JustOpened)) (h : Standing) (n : ℕ) → Quiet (2 * stops_in os n) (clear_words_to os h n)
 unfolding clear_words_to stops_in sum_to

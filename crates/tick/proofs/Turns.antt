@@ -28,11 +28,12 @@ use Rattle.trips.specs.declared.Trip.TheVariants.{GoesTo, Repositions}
 use Rattle.movement_system.specs.Passing.{passing_words}
 use Rattle.movement_system.specs.Movement.{passed_by, passes, arrives, move_of}
 use Rattle.movement_system.proofs.Cases.{move_cases}
-use Rattle.door_commands.specs.Commands.{queued, tried_on, work_to, work_words_to, process_door_commands, command_words}
+use Rattle.door_commands.specs.Commands.{queued, tried_on, applied_words, work_to, work_words_to, process_door_commands, command_words}
 use Rattle.doors_system.specs.Doors.{door_turn, step_by, turn_on, door_of}
 use Rattle.door_ticks.specs.Ticks.{Turn, opened_at, departed_from, door_by, after}
 use Rattle.door_ticks.proofs.Cases.{door_cases}
 use Rattle.door_commands.specs.declared.Work.{Work}
+use Rattle.door_commands.specs.declared.Doorway.{Doorway}
 use Rattle.laws.specs.Counting.{how_many}
 use Rattle.laws.proofs.Counting.{how_many_append}
 use Rattle.tick.specs.Counters.{is_move, is_move_word, moves_in}
@@ -163,6 +164,10 @@ move_fair dt w i =
 
 -- ---- doors
 
+applied_quiet : (i : ℕ) (q : DoorCommand) (t : Option Doorway) → Quiet 1 (applied_words i q t)
+applied_quiet i q None = quiet_more (omega arith) quiet_none
+applied_quiet i q (Some d) = quiet_one 10 i (code_of q) (ticks_of q) refl
+
 module _ (c : Car) (at_stop traversing : Bool) (i : ℕ) where
   works_quiet : (n : ℕ) → Quiet n (work_words_to c at_stop traversing i n)
   unfolding work_words_to
@@ -170,7 +175,7 @@ module _ (c : Car) (at_stop traversing : Bool) (i : ℕ) where
   works_quiet (suc n) =
       let q : DoorCommand = queued c at_stop traversing n in
       quiet_more (omega arith)
-      (quiet_join (works_quiet n) (quiet_if (tried_on c at_stop traversing (work_to c at_stop traversing n) q).applied 10 i (code_of q) (ticks_of q) refl))
+      (quiet_join (works_quiet n) (applied_quiet i q (tried_on c at_stop traversing (work_to c at_stop traversing n) q)))
 
   commands_quiet : Quiet 8 (command_words c at_stop traversing i)
   unfolding command_words

@@ -6,10 +6,11 @@ use Rattle.float.specs.Float as Float
 use Rattle.float.specs.Float.{one, two, epsilon, signum}
 use Rattle.motion.specs.Movement.{tick_movement, arrived_at}
 use Rattle.motion.specs.declared.movement.MovementResult.{MovementResult}
-use Rattle.world.specs.World.{car_at, new_car, empty_world}
+use Rattle.world.specs.World.{car_at, new_car, empty_world, serves_none}
 use Rattle.world.specs.With.{with_plan, with_cars, with_orders}
 use Rattle.world.specs.declared.World.{World}
 use Rattle.world.specs.declared.Car.{Car}
+use Rattle.world.specs.declared.Table.{Table}
 use Rattle.world.specs.declared.Line.{Line}
 use Rattle.world.specs.declared.Motion.{Motion}
 use Rattle.world.specs.declared.LineKind.{LineKind}
@@ -50,17 +51,17 @@ ten = f64 0x4024_0000_0000_0000
 
 -- ---- small worlds, as records load them into an empty one
 
-abbrev loaded : {A : Type 0} → List A → List A → List A
-loaded xs table = xs ++ drop (length xs) table
+abbrev loaded : {A : Type 0} → {n : ℕ} → List A → Table A n → Table A n
+loaded xs table = record { items = xs ++ drop (length xs) table.items; count = length xs }
 
 abbrev line : LineKind → Line
-line kind = record { kind = kind; listed = false; serves = replicate 64 0; serves_count = 0 }
+line kind = record { kind = kind; serves = serves_none }
 
 -- line 0, its stops and its cars
 abbrev world : LineKind → List Float → List Car → World
 world kind stops cars =
-    with_cars (with_plan empty_world (loaded stops empty_world.stops.items) (length stops) (loaded (line kind ∷ []) empty_world.lines.items) 1 true)
-    (loaded cars empty_world.cars.items) (length cars)
+    with_cars (with_plan empty_world (loaded stops empty_world.stops) (loaded (line kind ∷ []) empty_world.lines) true)
+    (loaded cars empty_world.cars)
 
 -- max speed 2, rates 1, factor 1
 abbrev motion : Float → Float → Motion
