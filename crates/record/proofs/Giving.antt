@@ -10,7 +10,6 @@ use Rattle.world.specs.declared.refusal.Refusal.TheVariants.{BrokenWorld}
 use Rattle.tape.specs.Tape.{decoded}
 use Rattle.tape_records.specs.declared.Read.{Read}
 use Rattle.tape_records.specs.declared.Read.TheVariants as Read
-use Rattle.tape_records.specs.declared.Decoded.{Decoded}
 use Rattle.tape_records.specs.declared.Record.{Record}
 use Rattle.changes.specs.declared.Changed.{Changed}
 use Rattle.std.specs.Prelude.{Result, Ok, Err}
@@ -63,26 +62,26 @@ module _ (w : World) (log : List ℕ) where
 
   -- ---- what was read
 
-  pub is_refused : {r : Recorded} {d : Result Decoded Refusal} {f : Refusal} → d ≡ Err f → Says r w f → Gives r log (read_by w log d)
+  pub is_refused : {r : Recorded} {d : Result Read Refusal} {f : Refusal} → d ≡ Err f → Says r w f → Gives r log (read_by w log d)
   is_refused d h = rw d (refusal_gives h)
 
-  pub is_made : {r : Recorded} {left : List ℕ} {d : Result Decoded Refusal} {e : Decoded} → d ≡ Ok e → Gives r left (made_of w log e.serves e.read)
+  pub is_made : {r : Recorded} {left : List ℕ} {d : Result Read Refusal} {read : Read} → d ≡ Ok read → Gives r left (made_of w log read)
       → Gives r left (read_by w log d)
   is_made d h = rw d h
 
-  pub is_changed : {r : Recorded} (serves : List ℕ) {read : Read} {found : Record} {used : ℕ} {c : Changed} → read ≡ Read.Accepted found used → c ≡ change_by w serves found
-      → (r.answer ≡ answer_of c.taken used) × (r.world ≡ c.world) → Gives r log (made_of w log serves read)
-  is_changed serves d e h = rw (d, ← e) (record { answer = h.0; world = h.1; log = refl })
+  pub is_changed : {r : Recorded} {read : Read} {found : Record} {used : ℕ} {c : Changed} → read ≡ Read.Accepted found used → c ≡ change_by w found
+      → (r.answer ≡ answer_of c.taken used) × (r.world ≡ c.world) → Gives r log (made_of w log read)
+  is_changed d e h = rw (d, ← e) (record { answer = h.0; world = h.1; log = refl })
 
-  pub tick_refused : {r : Recorded} (serves : List ℕ) {read : Read} {used : ℕ} {dt : Float} {f : Refusal} → read ≡ Read.Tick dt used → tick_says ≡ Err f
-      → Says r w f → Gives r log (made_of w log serves read)
-  tick_refused serves {used = used} {dt = dt} {f = f} d t h = rw (d, tick_said used dt (Err f) t) (refusal_gives h)
+  pub tick_refused : {r : Recorded} {read : Read} {used : ℕ} {dt : Float} {f : Refusal} → read ≡ Read.Tick dt used → tick_says ≡ Err f
+      → Says r w f → Gives r log (made_of w log read)
+  tick_refused {used = used} {dt = dt} {f = f} d t h = rw (d, tick_said used dt (Err f) t) (refusal_gives h)
 
-  pub tick_taken_lem : {r : Recorded} {left : List ℕ} {at : ℕ} (serves : List ℕ) {read : Read} {used : ℕ} {dt : Float} → read ≡ Read.Tick dt used
+  pub tick_taken_lem : {r : Recorded} {left : List ℕ} {at : ℕ} {read : Read} {used : ℕ} {dt : Float} → read ≡ Read.Tick dt used
       → tick_says ≡ Ok tt → r.answer ≡ Ok (record { used = used; written = at }) → r.world ≡ tick_world w dt → Wrote log 0 (tick_words w dt) left at
-      → Gives r left (made_of w log serves read)
+      → Gives r left (made_of w log read)
   unfolding WordsFit
-  tick_taken_lem {at = at} serves {used = used} {dt = dt} d t n m h =
+  tick_taken_lem {at = at} {used = used} {dt = dt} d t n m h =
       let fits : length (tick_words w dt) ≤ room_of w = words_fit w dt in
       let all : at ≡ length (tick_words w dt) = omega (arith, h.next, fits, has_room_lem t) in
       rw (d, tick_said used dt (Ok tt) t) (record { answer = n ∙ ap (λ (x : ℕ). Ok (record { used = used; written = x })) all; world = m; log = h.list })
@@ -93,7 +92,7 @@ module _ (w : World) (log : List ℕ) where
   unfolding record_of
   is_broken words e h = rw e (refusal_gives h)
 
-  pub is_whole : {r : Recorded} {left : List ℕ} (words : List ℕ) {d : Result Decoded Refusal} → broken w ≡ false → d ≡ decoded words → Gives r left (read_by w log d)
+  pub is_whole : {r : Recorded} {left : List ℕ} (words : List ℕ) {d : Result Read Refusal} → broken w ≡ false → d ≡ decoded words → Gives r left (read_by w log d)
       → Gives r left (record_of w words log)
   unfolding record_of
   is_whole words e d h = rw e (rw d at h)

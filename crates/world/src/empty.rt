@@ -3,7 +3,7 @@ ghost use Rattle.std.specs.Prelude.{◌≡◌};
 ghost use Rattle.world.specs.World.{new_car, empty_car, empty_world};
 
 use crate::{
-    Car, CarPlan, ElevatorPhase, Lamps, Line, LineKind, Motion, Queue, Rider, RiderPhase, Serves,
+    Car, CarPlan, ElevatorPhase, Lamps, Line, LineKind, Motion, Rider, RiderPhase, Serves,
     ServiceMode, Table, World,
 };
 use door::{DoorCommand, DoorState};
@@ -27,14 +27,8 @@ pub fn new_car(plan: CarPlan) -> Car
         repositioning: false,
         target_stop: None,
         manual_target_velocity: None,
-        destination_queue: Queue {
-            items: [0u8; 8],
-            count: 0,
-        },
-        door_command_queue: Queue {
-            items: [DoorCommand::Open; 8],
-            count: 0,
-        },
+        destination_queue: Table::of_none(0),
+        door_command_queue: Table::of_none(DoorCommand::Open),
         move_count: 0,
         cooldown: None,
     }
@@ -77,22 +71,10 @@ pub fn empty() -> World
     };
     let car = empty_car();
     World {
-        stops: Table {
-            items: [0.0f64; 64],
-            count: 0,
-        },
-        lines: Table {
-            items: [line; 8],
-            count: 0,
-        },
-        cars: Table {
-            items: [car; 16],
-            count: 0,
-        },
-        riders: Table {
-            items: [rider; 128],
-            count: 0,
-        },
+        stops: Table::of_none(0.0),
+        lines: Table::of_none(line),
+        cars: Table::of_none(car),
+        riders: Table::of_none(rider),
         up_calls: 0,
         down_calls: 0,
         started: false,

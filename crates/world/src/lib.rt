@@ -3,7 +3,7 @@
 #![tactic(auto)]
 
 ghost use Rattle.std.specs.Prelude.{◌≡◌};
-ghost use Rattle.world.specs.Tables.{pushed};
+ghost use Rattle.world.specs.Tables.{of_none, pushed};
 
 pub mod empty; // a new car, the empty world
 pub mod refusal; // the refusals and their numbers
@@ -30,6 +30,14 @@ pub struct Table<T, const N: usize> {
 }
 
 impl<T: Copy, const N: usize> Table<T, N> {
+    // One of which no item is there; what stands in their places.
+    pub fn of_none(item: T) -> Table<T, N>
+        ensures { result ≡ of_none N item }
+    {
+        let items = [item; N];
+        Table { items, count: 0 }
+    }
+
     // With one more item at its end; None where it is full.
     pub fn pushed(self, item: T) -> Option<Table<T, N>>
         ensures { result ≡ pushed self item }

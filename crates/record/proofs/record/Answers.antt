@@ -8,6 +8,7 @@ use Rattle.sound.specs.Sound.{broken}
 use Rattle.sound.specs.Parts.{cars_broken, rest_broken}
 use Rattle.sound.proofs.Unbroken.{in_places}
 use Rattle.world.specs.World.{car_at}
+use Rattle.world.specs.Tables.{Stops}
 use Rattle.world.specs.declared.World.{World}
 use Rattle.steps.specs.Steps.{Step, step_of, run_to}
 use Rattle.std.specs.declared.option.Option.{Option}
@@ -66,13 +67,13 @@ pub returns-in-Accepted : goal.returns-in-Accepted
 returns-in-Accepted c =
     let w = c.args.world in
     is_whole w _ _ (whole (goal.at.returns-in-Accepted c).Else-broken) c.decode.ensures
-    (is_made w _ c.in-Ok.is (is_changed w _ _ c.in-Accepted.is c.change.ensures c.answered.ensures))
+    (is_made w _ c.in-Ok.is (is_changed w _ c.in-Accepted.is c.change.ensures c.answered.ensures))
 
 pub returns-in-Err-taken : goal.returns-in-Err-taken
 returns-in-Err-taken c =
     let w = c.args.world in
     is_whole w _ _ (whole (goal.at.returns-in-Err-taken c).Else-broken) c.decode.ensures
-    (is_made w _ c.in-Ok.is (tick_refused w _ _ c.in-Tick.is (sym c.take_tick-taken.ensures ∙ c.in-Err-taken.is) c.refused-in-Err-taken.ensures))
+    (is_made w _ c.in-Ok.is (tick_refused w _ c.in-Tick.is (sym c.take_tick-taken.ensures ∙ c.in-Err-taken.is) c.refused-in-Err-taken.ensures))
 
 -- ---- the moves
 
@@ -86,7 +87,7 @@ loop-i-2-preserved c =
     let s = c.loop-i-2 in
     let n = min c.args.world.stops.count 64 in
     let order : c.sorted_stops-sort.result ≡ sorted_table s.w.stops.items n =
-    c.sorted_stops-sort.ensures ∙ ap (λ (stops : List Float). sorted_table stops n) (sym (stops_kept s.invariant.1)) in
+    c.sorted_stops-sort.ensures ∙ ap (λ (stops : Stops). sorted_table stops.items n) (sym (stops_kept s.invariant.1)) in
     let trip = c.trip_of-trip in
     let so_far : s.i + 1 ≤ c.min-cars.result = omega (arith, c.loop-i-2-test.true) in
     elim c.if-is_trip.branch [
@@ -98,7 +99,7 @@ loop-i-2-preserved c =
             u.landing-result.ensures
             (elim u.if-asks_work.branch [
               | then-asks_work z ↦ inr (rw u.asks_work.ensures at z.if-asks_work.true, z.lamps-is ∙ z.work_of-lamps.ensures)
-              | else-asks_work z ↦ inl (rw u.asks_work.ensures at z.if-asks_work.false, z.lamps-is ∙ u.lamps_of-lamps.ensures)
+              | else-asks_work z ↦ inl (rw u.asks_work.ensures at z.if-asks_work.false, z.lamps-is)
             ])
             (u.tell-told.ensures order) refl refl u.distance_by.ensures
             u.if-result.true u.come-arrived.ensures u.w-is u.log-is u.to-is,
@@ -112,7 +113,7 @@ loop-i-2-preserved c =
             u.landing-result.ensures
             (elim u.if-asks_work.branch [
               | then-asks_work z ↦ inr (rw u.asks_work.ensures at z.if-asks_work.true, z.lamps-is ∙ z.work_of-lamps.ensures)
-              | else-asks_work z ↦ inl (rw u.asks_work.ensures at z.if-asks_work.false, z.lamps-is ∙ u.lamps_of-lamps.ensures)
+              | else-asks_work z ↦ inl (rw u.asks_work.ensures at z.if-asks_work.false, z.lamps-is)
             ])
             (u.tell-told.ensures order) refl refl u.distance_by.ensures
             u.if-result.false u.w-is u.log-is u.to-is,
@@ -162,5 +163,5 @@ returns c =
     let r = ended (runs_at t.invariant.1 f) (cleared t.just_opened (calls_kept t.invariant.1) d c.clear_hall_calls-calls.ensures) in
     let x = doored_after c.in-Tick.dt w k r.0 r.1 in
     is_whole w _ _ (whole (goal.at.returns c).Else-broken) c.decode.ensures
-    (is_made w _ c.in-Ok.is (tick_taken_lem w _ _ c.in-Tick.is (sym c.take_tick-taken.ensures ∙ c.in_default.is) refl
+    (is_made w _ c.in-Ok.is (tick_taken_lem w _ c.in-Tick.is (sym c.take_tick-taken.ensures ∙ c.in_default.is) refl
     (ap ticked x.0) (also c.emit-to.ensures x.1)))
