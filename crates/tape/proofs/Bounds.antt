@@ -14,7 +14,7 @@ use Rattle.laws.proofs.Bools.{and_left, and_right}
 use Rattle.laws.proofs.Choices.{cases}
 use Rattle.world.proofs.Checks.{Passed, all, first_of, unless_has}
 use Rattle.std.specs.Prelude.{Result, Ok, Err}
-use Rattle.tape_records.specs.declared.Decoded.{Decoded}
+use Rattle.tape_records.specs.declared.Read.{Read}
 use Rattle.tape_records.specs.Answers.{Deed, answer}
 use Rattle.tape.specs.Tape.{Kind, kind_in, kinds, record_of, decoded}
 use Rattle.tape_loads.specs.LoadRecords.{serves_count, line_record, stop_record, car_record, rider_record}
@@ -28,7 +28,7 @@ abbrev of_words : Refusal → Bool
 of_words r = leb 1 (refusal_number r) && leb (refusal_number r) 4
 
 module _ (ws : List ℕ) where
-  abbrev Fine : Result Decoded Refusal → Type 0
+  abbrev Fine : Result Read Refusal → Type 0
   Fine = InBounds ws
 
   refused_in : (r : Refusal) → of_words r ≡ true → Fine (Err r)

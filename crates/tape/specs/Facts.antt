@@ -2,7 +2,6 @@
 use Rattle.std.specs.Prelude.{Result, Ok, Err, ◌≡◌, List, ℕ, ◌<◌, ◌≤◌, length, get_or}
 use Rattle.world.specs.Refusal.{refusal_number}
 use Rattle.world.specs.declared.refusal.Refusal.{Refusal}
-use Rattle.tape_records.specs.declared.Decoded.{Decoded}
 use Rattle.tape_records.specs.declared.Read.{Read}
 use Rattle.tape_records.specs.declared.Read.TheVariants.{Accepted, Tick}
 use Rattle.tape_records.specs.declared.Record.{Record}

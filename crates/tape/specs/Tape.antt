@@ -5,7 +5,7 @@ use Rattle.world.specs.declared.refusal.Refusal.{Refusal}
 use Rattle.world.specs.declared.refusal.Refusal.TheVariants.{CutShort, UnknownKind}
 use Rattle.fields.specs.declared.head.Head.{Head}
 use Rattle.fields.specs.Fields.{head_of}
-use Rattle.tape_records.specs.declared.Decoded.{Decoded}
+use Rattle.tape_records.specs.declared.Read.{Read}
 use Rattle.tape_records.specs.Answers.{Deed, answer}
 use Rattle.tape_loads.specs.LoadRecords.{line_record, stop_record, car_record, rider_record}
 use Rattle.tape_orders.specs.OrderRecords.{send_record, mode_record, manual_speed_record, door_command_record, hall_call_record, destination_record, enable_record, tick_record, start_record}

@@ -2,6 +2,7 @@
 ghost use Rattle.std.specs.Prelude.{◌≡◌, true};
 ghost use Rattle.tape.specs.Facts.{Facts};
 
+#[tactic(auto, using(crate::proofs::Bounds::in_bounds))]
 pub fn facts() -> bool
     ensures { (result ≡ true) × Facts }
 {

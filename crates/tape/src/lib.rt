@@ -19,9 +19,9 @@ pub fn decode(words: &[u32]) -> Result<Read, Refusal>
         return Err(Refusal::CutShort);
     }
     let head = head_of(words[0]);
-    let kind = head.kind;
-    // Stays: the kinds' numbers stand once, here. An enum of the kinds with TryFrom would be a second table of them.
-    match kind {
+    // Stays: a match on the number, which is read here alone and stands beside its decoder's name. An enum of the kinds would list the thirteen
+    // names three times: in itself, in its TryFrom and in this match.
+    match head.kind {
         1 => tape_loads::decode_line(head, words),
         2 => tape_loads::decode_stop(head, words),
         3 => tape_loads::decode_car(head, words),

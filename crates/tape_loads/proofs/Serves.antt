@@ -1,15 +1,11 @@
--- A served word that is not outside is a stop's number. Assumes nothing.
-use mathlib.Core.Path.{◌≡◌, refl}
-use mathlib.Core.Bool.{Bool, true, false, not, ◌&&◌, cond}
-use mathlib.Core.List.{List}
+-- A line's count of served stops is at most 64; its served words are the items of a slice. Assumes nothing.
+use Rattle.std.proofs.Common.{◌≡◌, ◌∙◌, ◌+◌, ◌-◌, ◌<◌, ℕ, zero, suc, Bool, true, false, not, cond, ltb, eqb, ◌&&◌, ◌≤◌, refl, List, arith, length, get_or, get_or-take, get_or-drop, take, drop}
+use Rattle.std.proofs.lemmas.List.{length-take}
+use mathlib.Core.Bool.{or-true}
 use mathlib.Core.Logic.{⊎_elim}
-use Prim.Native.Nat.{ℕ, zero, suc, ◌+◌, ◌<◌, ◌≤◌}
 use native.Mathlib.Nat.{eq-or-lt_of_le, le_of_suc-le-suc}
-use native.Mathlib.Omega.{arith}
-use lib.Dec.{ltb, eqb}
-use lib.ListN.{get_or}
-use borrow.Author.Tests.{ltb-false}
-use Rattle.laws.proofs.Bools.{yes, or_left, or_right}
+use borrow.Author.Tests.{lt-ltb, ltb-false}
+use Rattle.laws.proofs.Bools.{yes}
 use Rattle.tape_loads.specs.LoadRecords.{serves_count, serves_outside}
 
 small : (a b : Bool) → (a && not b) ≡ false → b ≡ false → a ≡ false
@@ -25,9 +21,16 @@ count_small v h = go (eqb v 65535) refl
     go true e = omega arith
     go false e = ltb-false 64 v (small (ltb 64 v) (eqb v 65535) h e)
 
-pub served_below : (ws : List ℕ) (n i : ℕ) → i < n → serves_outside ws n ≡ false → get_or ws (5 + i) 0 < 64
+-- one that is no stop's number makes the list outside
+outside_at : (ws : List ℕ) (n i : ℕ) → i < n → 63 < get_or ws (5 + i) 0 → serves_outside ws n ≡ true
 unfolding serves_outside
-served_below ws zero i h e = absurd (omega arith)
-served_below ws (suc n) i h e =
-    ⊎_elim (λ q. rw q (omega (arith, ltb-false 63 (get_or ws (5 + n) 0) (or_right (serves_outside ws n) (ltb 63 (get_or ws (5 + n) 0)) e))))
-    (λ l. served_below ws n i l (or_left (serves_outside ws n) (ltb 63 (get_or ws (5 + n) 0)) e)) (eq-or-lt_of_le (le_of_suc-le-suc h))
+outside_at ws zero i h k = absurd (omega arith)
+outside_at ws (suc n) i h k =
+    ⊎_elim (λ q. rw (← q, lt-ltb 63 (get_or ws (5 + i) 0) k, or-true (serves_outside ws i))) (λ l. rw (outside_at ws n i l k)) (eq-or-lt_of_le (le_of_suc-le-suc h))
+
+pub served : (ws : List ℕ) (count i : ℕ) → i < length (take (5 + count - 5) (drop 5 ws)) → get_or (take (5 + count - 5) (drop 5 ws)) i 0 ≡ get_or ws (5 + i) 0
+served ws count i h =
+    get_or-take (5 + count - 5) (drop 5 ws) i 0 (omega (arith, h, length-take (5 + count - 5) (drop 5 ws))) ∙ get_or-drop 5 ws i 0
+
+pub served_outside : (ws : List ℕ) (count i : ℕ) → i < length (take (5 + count - 5) (drop 5 ws)) → 63 < get_or (take (5 + count - 5) (drop 5 ws)) i 0 → serves_outside ws count ≡ true
+served_outside ws count i h k = outside_at ws count i (omega (arith, h, length-take (5 + count - 5) (drop 5 ws))) (rw (← served ws count i h) k)

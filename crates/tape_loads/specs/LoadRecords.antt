@@ -13,7 +13,7 @@ use Rattle.fields.specs.declared.head.Head.{Head}
 use Rattle.fields.specs.Fields.{float_at, raw_zero_at, outside_size, outside_from_zero, outside_above_zero}
 use Rattle.tape_records.specs.declared.Record.TheVariants as Record
 use Rattle.tape_records.specs.declared.Read.TheVariants.{Accepted}
-use Rattle.tape_records.specs.Answers.{not_stop, not_line, not_car, not_rider, nonzero, million, thousand, ten, accepted, Deed}
+use Rattle.tape_records.specs.Answers.{not_stop, not_line, not_car, not_rider, nonzero, million, thousand, ten, Deed}
 use Rattle.tape_loads.specs.declared.RiderBody.{RiderBody}
 use Rattle.world.specs.declared.Line.{Line}
 

@@ -1,9 +1,10 @@
 // Reads kinds 1 to 4 of a tape, what a world is loaded with: line, stop, car, rider.
 #![tactic(auto)]
 
-ghost use Rattle.std.specs.Prelude.{◌≡◌, false, ◌≤◌};
-ghost use Rattle.tape_records.specs.Answers.{answer};
-ghost use Rattle.tape_loads.specs.LoadRecords.{serves_count, serves_outside, serves_to, line_fields_outside, line_floats_outside, line_kind_of, line_record, stop_record, motion_at, motion_outside, car_record, rider_body, rider_body_outside, phase_car_outside, rider_phase, car_option, stop_option, rider_record};
+ghost use Rattle.std.specs.Prelude.{IfOk, ◌≡◌, ◌≤◌, ◌+◌, ◌&&◌, ◌||◌, not, cond, ltb, eqb, length, Ok, Err};
+ghost use Rattle.world.specs.declared.refusal.Refusal.TheVariants.{FieldOutside};
+ghost use Rattle.tape_records.specs.Answers.{answer, not_stop, not_car};
+ghost use Rattle.tape_loads.specs.LoadRecords.{serves_count, serves_outside, serves_to, line_fields_outside, line_floats_outside, line_kind_of, line_record, stop_record, motion_at, motion_outside, car_record, rider_body, phase_car_outside, rider_phase, car_option, stop_option, rider_record};
 
 use fields::body::{
     float_at, outside_above_zero, outside_from_zero, outside_size, raw_zero_at, word_at,
@@ -15,36 +16,31 @@ use world::{CarPlan, Line, LineKind, Motion, Rider, RiderPhase, Serves, Table};
 
 // How many served stops follow: 65,535 stands for no list.
 #[tactic(auto, unfolding(crate::specs::LoadRecords::serves_count))]
-fn serves_count(v: u32) -> usize
-    ensures { result ≡ serves_count v }
+fn serves_count(v: u32) -> Result<usize, Refusal>
+    ensures answer { result ≡ cond (ltb 64 v && not (eqb v 65535)) (Err FieldOutside) (Ok (serves_count v)) }
+    ensures few { IfOk result (λ count. count ≤ 64) }
 {
-    if v == 65535 { 0 } else { v as usize }
-}
-
-// Whether one of the first `count` served words is no stop's number.
-#[tactic(auto, unfolding(crate::specs::LoadRecords::serves_outside))]
-fn serves_outside(words: &[u32], count: usize) -> bool
-    requires { count ≤ 64 }
-    ensures { result ≡ serves_outside words.now count }
-{
-    let mut outside = false;
-    for i in 0..count {
-        outside |= word_at(words, 5 + i) > 63;
+    match v {
+        0..=64 => Ok(v as usize),
+        65535 => Ok(0),
+        _ => Err(Refusal::FieldOutside),
     }
-    outside
 }
 
-// The first `count` served words in order, and zeros.
-#[tactic(auto, unfolding(crate::specs::LoadRecords::serves_to))]
-fn serves_to(words: &[u32], count: usize) -> [u8; 64]
-    requires { (count ≤ 64) × (serves_outside words.now count ≡ false) }
-    ensures { result ≡ serves_to words.now count }
+// The first `count` served words in order as stops, and zeros; refused where one is no stop's number.
+#[tactic(auto, using(crate::proofs::Serves::served), unfolding(crate::specs::LoadRecords::serves_outside, crate::specs::LoadRecords::serves_to))]
+fn serves_to(words: &[u32], count: usize) -> Result<[u8; 64], Refusal>
+    requires { (count ≤ 64) × (5 + count ≤ length words.now) }
+    ensures { result ≡ cond (serves_outside words.now count) (Err FieldOutside) (Ok (serves_to words.now count)) }
 {
     let mut serves = [0u8; 64];
-    for i in 0..count {
-        serves[i] = word_at(words, 5 + i) as u8;
+    for (i, word) in words[5..5 + count].iter().enumerate() {
+        if *word > 63 {
+            return Err(Refusal::FieldOutside);
+        }
+        serves[i] = *word as u8;
     }
-    serves
+    Ok(serves)
 }
 
 #[tactic(auto, unfolding(crate::specs::LoadRecords::line_fields_outside))]
@@ -82,17 +78,13 @@ fn line_kind_of(head: Head, words: &[u32]) -> LineKind
 pub fn decode_line(head: Head, words: &[u32]) -> Result<Read, Refusal>
     ensures { result ≡ answer (line_record head words.now) }
 {
-    refuse_if((head.v > 64) & (head.v != 65535), Refusal::FieldOutside)?;
-    let count = serves_count(head.v);
+    let count = serves_count(head.v)?;
     refuse_if(words.len() < 5 + count, Refusal::CutShort)?;
-    let field_outside = line_fields_outside(head, words) | serves_outside(words, count);
-    refuse_if(field_outside, Refusal::FieldOutside)?;
+    refuse_if(line_fields_outside(head, words), Refusal::FieldOutside)?;
+    let items = serves_to(words, count)?;
     refuse_if(line_floats_outside(head, words), Refusal::FloatOutside)?;
     let kind = line_kind_of(head, words);
-    let stops = Table {
-        items: serves_to(words, count),
-        count,
-    };
+    let stops = Table { items, count };
     let serves = Serves {
         listed: head.v != 65535,
         stops,
@@ -183,52 +175,43 @@ fn rider_body(word: u32) -> RiderBody
     }
 }
 
-// Phases 1 to 3 want a car, the others none.
-fn phase_car_outside(phase: u8, car: u8) -> bool
-    ensures { result ≡ phase_car_outside phase car }
+// The phase of a rider by its number; phases 1 to 3 have a car, the others 255.
+fn rider_phase(phase: u8, car: u8) -> Result<RiderPhase, Refusal>
+    ensures { result ≡ cond (ltb 7 phase || phase_car_outside phase car) (Err FieldOutside) (Ok (rider_phase phase car)) }
 {
-    if (phase > 0) & (phase < 4) {
-        car > 15
-    } else {
-        car != 255
+    match (phase, car) {
+        (0, 255) => Ok(RiderPhase::Waiting),
+        (1, 0..=15) => Ok(RiderPhase::Boarding(car)),
+        (2, 0..=15) => Ok(RiderPhase::Riding(car)),
+        (3, 0..=15) => Ok(RiderPhase::Exiting(car)),
+        (4, 255) => Ok(RiderPhase::Walking),
+        (5, 255) => Ok(RiderPhase::Arrived),
+        (6, 255) => Ok(RiderPhase::Abandoned),
+        (7, 255) => Ok(RiderPhase::Resident),
+        _ => Err(Refusal::FieldOutside),
     }
 }
 
-fn rider_body_outside(body: RiderBody) -> bool
-    ensures { result ≡ rider_body_outside body }
+// A car, or 255 for none.
+fn car_option(car: u8) -> Result<Option<u8>, Refusal>
+    ensures { result ≡ cond (not_car car && not (eqb car 255)) (Err FieldOutside) (Ok (car_option car)) }
 {
-    (body.phase > 7)
-        | phase_car_outside(body.phase, body.car)
-        | (body.aboard > 15) & (body.aboard != 255)
-        | (body.top != 0)
-}
-
-// Stays: a TryFrom would look again at the phases that the record's check has passed.
-fn rider_phase(phase: u8, car: u8) -> RiderPhase
-    ensures { result ≡ rider_phase phase car }
-{
-    match phase {
-        0 => RiderPhase::Waiting,
-        1 => RiderPhase::Boarding(car),
-        2 => RiderPhase::Riding(car),
-        3 => RiderPhase::Exiting(car),
-        4 => RiderPhase::Walking,
-        5 => RiderPhase::Arrived,
-        6 => RiderPhase::Abandoned,
-        _ => RiderPhase::Resident,
+    match car {
+        0..=15 => Ok(Some(car)),
+        255 => Ok(None),
+        _ => Err(Refusal::FieldOutside),
     }
 }
 
-fn car_option(car: u8) -> Option<u8>
-    ensures { result ≡ car_option car }
+// A stop, or 65,535 for none.
+fn stop_option(stop: u32) -> Result<Option<u8>, Refusal>
+    ensures { result ≡ cond (not_stop stop && not (eqb stop 65535)) (Err FieldOutside) (Ok (stop_option stop)) }
 {
-    if car == 255 { None } else { Some(car) }
-}
-
-fn stop_option(stop: u32) -> Option<u8>
-    ensures { result ≡ stop_option stop }
-{
-    if stop < 64 { Some(stop as u8) } else { None }
+    match stop {
+        0..=63 => Ok(Some(stop as u8)),
+        65535 => Ok(None),
+        _ => Err(Refusal::FieldOutside),
+    }
 }
 
 pub fn decode_rider(head: Head, words: &[u32]) -> Result<Read, Refusal>
@@ -236,15 +219,12 @@ pub fn decode_rider(head: Head, words: &[u32]) -> Result<Read, Refusal>
 {
     refuse_if(words.len() < 2, Refusal::CutShort)?;
     let body = rider_body(word_at(words, 1));
-    let head_outside = (head.n != 0) | (head.s > 127) | (head.v > 63) & (head.v != 65535);
-    refuse_if(
-        head_outside | rider_body_outside(body),
-        Refusal::FieldOutside,
-    )?;
+    let field_outside = (head.n != 0) | (head.s > 127) | (body.top != 0);
+    refuse_if(field_outside, Refusal::FieldOutside)?;
     let rider = Rider {
-        destination: stop_option(head.v),
-        phase: rider_phase(body.phase, body.car),
-        aboard: car_option(body.aboard),
+        destination: stop_option(head.v)?,
+        phase: rider_phase(body.phase, body.car)?,
+        aboard: car_option(body.aboard)?,
     };
     let record = Record::Rider {
         number: head.s,

@@ -12,8 +12,8 @@ use Rattle.std.specs.declared.option.Option.TheVariants.{None, Some}
 use Rattle.fields.specs.declared.head.Head.{Head}
 use Rattle.fields.specs.Fields.{float_at, raw_zero_at, outside_size, outside_above_zero}
 use Rattle.tape_records.specs.declared.Record.TheVariants as Record
-use Rattle.tape_records.specs.Answers.{not_stop, nonzero, thousand, alone, accepted, Deed}
-use Rattle.tape_records.specs.declared.Read.TheVariants.{Tick}
+use Rattle.tape_records.specs.Answers.{not_stop, nonzero, thousand, Deed}
+use Rattle.tape_records.specs.declared.Read.TheVariants.{Accepted, Tick}
 
 -- ---- 5 send: n car, s stop, v 0 go, 1 reposition
 

@@ -1,8 +1,9 @@
 // Reads kinds 5 to D of a tape: what cars, hall calls and the clock are told.
 #![tactic(auto)]
 
-ghost use Rattle.std.specs.Prelude.{◌≡◌};
-ghost use Rattle.tape_records.specs.Answers.{answer};
+ghost use Rattle.std.specs.Prelude.{◌≡◌, ◌&&◌, ◌||◌, not, cond, ltb, eqb, Ok, Err};
+ghost use Rattle.world.specs.declared.refusal.Refusal.TheVariants.{FieldOutside};
+ghost use Rattle.tape_records.specs.Answers.{answer, nonzero};
 ghost use Rattle.tape_orders.specs.OrderRecords.{send_record, mode_of, mode_record, speed_of, manual_speed_record, command_of, door_command_record, hall_call_record, destination_record, enable_record, any_field_set, tick_record, start_record};
 
 use door::DoorCommand;
@@ -24,24 +25,25 @@ pub fn decode_send(head: Head) -> Result<Read, Refusal>
     Ok(Read::Accepted(record, 1))
 }
 
-// Stays: a TryFrom would look again at the codes that the record's check has passed.
-fn mode_of(v: u32) -> ServiceMode
-    ensures { result ≡ mode_of v }
+// The mode of a code.
+fn mode_of(v: u32) -> Result<ServiceMode, Refusal>
+    ensures { result ≡ cond (ltb 4 v) (Err FieldOutside) (Ok (mode_of v)) }
 {
     match v {
-        0 => ServiceMode::Normal,
-        1 => ServiceMode::Independent,
-        2 => ServiceMode::Inspection,
-        3 => ServiceMode::Manual,
-        _ => ServiceMode::OutOfService,
+        0 => Ok(ServiceMode::Normal),
+        1 => Ok(ServiceMode::Independent),
+        2 => Ok(ServiceMode::Inspection),
+        3 => Ok(ServiceMode::Manual),
+        4 => Ok(ServiceMode::OutOfService),
+        _ => Err(Refusal::FieldOutside),
     }
 }
 
 pub fn decode_mode(head: Head) -> Result<Read, Refusal>
     ensures { result ≡ answer (mode_record head) }
 {
-    refuse_if((head.s != 0) | (head.v > 4), Refusal::FieldOutside)?;
-    let mode = mode_of(head.v);
+    refuse_if(head.s != 0, Refusal::FieldOutside)?;
+    let mode = mode_of(head.v)?;
     let record = Record::Mode { car: head.n, mode };
     Ok(Read::Accepted(record, 1))
 }
@@ -67,23 +69,23 @@ pub fn decode_manual_speed(head: Head, words: &[u32]) -> Result<Read, Refusal>
     Ok(Read::Accepted(record, 3))
 }
 
-fn command_of(s: u8, v: u32) -> DoorCommand
-    ensures { result ≡ command_of s v }
+// The door command of a code and its ticks, which none but HoldOpen has.
+fn command_of(s: u8, v: u32) -> Result<DoorCommand, Refusal>
+    ensures { result ≡ cond (ltb 3 s || not (eqb s 2) && nonzero v) (Err FieldOutside) (Ok (command_of s v)) }
 {
-    match s {
-        0 => DoorCommand::Open,
-        1 => DoorCommand::Close,
-        2 => DoorCommand::HoldOpen { ticks: v },
-        _ => DoorCommand::CancelHold,
+    match (s, v) {
+        (0, 0) => Ok(DoorCommand::Open),
+        (1, 0) => Ok(DoorCommand::Close),
+        (2, ticks) => Ok(DoorCommand::HoldOpen { ticks }),
+        (3, 0) => Ok(DoorCommand::CancelHold),
+        _ => Err(Refusal::FieldOutside),
     }
 }
 
 pub fn decode_door_command(head: Head) -> Result<Read, Refusal>
     ensures { result ≡ answer (door_command_record head) }
 {
-    let field_outside = (head.s > 3) | (head.s != 2) & (head.v != 0);
-    refuse_if(field_outside, Refusal::FieldOutside)?;
-    let command = command_of(head.s, head.v);
+    let command = command_of(head.s, head.v)?;
     let record = Record::DoorCommand {
         car: head.n,
         command,

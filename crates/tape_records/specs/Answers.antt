@@ -1,13 +1,10 @@
 -- What is read of a tape (the input record stream): an answer, the checks before it, and the ranges of numbers and floats.
-use Rattle.std.specs.Prelude.{Result, Ok, Err, Bool, not, List, ℕ, ltb, eqb, replicate, Float}
+use Rattle.std.specs.Prelude.{Result, Ok, Err, Bool, not, List, ℕ, ltb, eqb, Float}
 use Rattle.std.specs.Float.{binary64}
 use Rattle.std.specs.Float.Ieee.{of_bits}
 use Rattle.world.specs.Refusal.{Check, unless}
 use Rattle.world.specs.declared.refusal.Refusal.{Refusal}
-use Rattle.tape_records.specs.declared.Record.{Record}
 use Rattle.tape_records.specs.declared.Read.{Read}
-use Rattle.tape_records.specs.declared.Read.TheVariants.{Accepted}
-use Rattle.tape_records.specs.declared.Decoded.{Decoded}
 
 -- ---- numbers: "Stops 0 to 63, cars 0 to 15, riders 0 to 127", lines 0 to 7; "Fields not named are 0"
 

@@ -10,51 +10,17 @@ use world::{CarPlan, Line, Rider, ServiceMode};
 // A record other than a tick, with its values.
 #[derive(Clone, Copy)]
 pub enum Record {
-    Line {
-        number: u8,
-        line: Line,
-    },
-    Stop {
-        number: u8,
-        position: f64,
-    },
-    Car {
-        number: u8,
-        plan: CarPlan,
-    },
-    Rider {
-        number: u8,
-        rider: Rider,
-    },
-    Send {
-        car: u8,
-        stop: u8,
-        reposition: bool,
-    },
-    Mode {
-        car: u8,
-        mode: ServiceMode,
-    },
-    ManualSpeed {
-        car: u8,
-        speed: Option<f64>,
-    },
-    DoorCommand {
-        car: u8,
-        command: DoorCommand,
-    },
-    HallCall {
-        stop: u8,
-        down: bool,
-    },
-    Destination {
-        car: u8,
-        stop: u8,
-    },
-    Enable {
-        car: u8,
-        enabled: bool,
-    },
+    Line { number: u8, line: Line },
+    Stop { number: u8, position: f64 },
+    Car { number: u8, plan: CarPlan },
+    Rider { number: u8, rider: Rider },
+    Send { car: u8, stop: u8, reposition: bool },
+    Mode { car: u8, mode: ServiceMode },
+    ManualSpeed { car: u8, speed: Option<f64> },
+    DoorCommand { car: u8, command: DoorCommand },
+    HallCall { stop: u8, down: bool },
+    Destination { car: u8, stop: u8 },
+    Enable { car: u8, enabled: bool },
     Start,
 }
 
