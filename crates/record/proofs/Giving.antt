@@ -69,22 +69,20 @@ module _ (w : World) (log : List ℕ) where
       → Gives r left (read_by w log d)
   is_made d h = rw d h
 
-  pub is_changed : {r : Recorded} {read : Read} {found : Record} {used : ℕ} {c : Changed} → read ≡ Read.Accepted found used → c ≡ change_by w found
-      → (r.answer ≡ answer_of c.taken used) × (r.world ≡ c.world) → Gives r log (made_of w log read)
-  is_changed d e h = rw (d, ← e) (record { answer = h.0; world = h.1; log = refl })
+  pub is_changed : {r : Recorded} (found : Record) (used : ℕ) {c : Changed} → c ≡ change_by w found
+      → (r.answer ≡ answer_of c.taken used) × (r.world ≡ c.world) → Gives r log (made_of w log (Read.Accepted found used))
+  is_changed found used e h = rw (← e) (record { answer = h.0; world = h.1; log = refl })
 
-  pub tick_refused : {r : Recorded} {read : Read} {used : ℕ} {dt : Float} {f : Refusal} → read ≡ Read.Tick dt used → tick_says ≡ Err f
-      → Says r w f → Gives r log (made_of w log read)
-  tick_refused {used = used} {dt = dt} {f = f} d t h = rw (d, tick_said used dt (Err f) t) (refusal_gives h)
+  pub tick_refused : {r : Recorded} (used : ℕ) (dt : Float) {f : Refusal} → tick_says ≡ Err f → Says r w f → Gives r log (made_of w log (Read.Tick dt used))
+  tick_refused used dt {f = f} t h = rw (tick_said used dt (Err f) t) (refusal_gives h)
 
-  pub tick_taken_lem : {r : Recorded} {left : List ℕ} {at : ℕ} {read : Read} {used : ℕ} {dt : Float} → read ≡ Read.Tick dt used
-      → tick_says ≡ Ok tt → r.answer ≡ Ok (record { used = used; written = at }) → r.world ≡ tick_world w dt → Wrote log 0 (tick_words w dt) left at
-      → Gives r left (made_of w log read)
+  pub tick_taken_lem : {r : Recorded} {left : List ℕ} {at : ℕ} (used : ℕ) (dt : Float) → tick_says ≡ Ok tt → r.answer ≡ Ok (record { used = used; written = at }) → r.world ≡ tick_world w dt → Wrote log 0 (tick_words w dt) left at
+      → Gives r left (made_of w log (Read.Tick dt used))
   unfolding WordsFit
-  tick_taken_lem {at = at} {used = used} {dt = dt} d t n m h =
+  tick_taken_lem {at = at} used dt t n m h =
       let fits : length (tick_words w dt) ≤ room_of w = words_fit w dt in
       let all : at ≡ length (tick_words w dt) = omega (arith, h.next, fits, has_room_lem t) in
-      rw (d, tick_said used dt (Ok tt) t) (record { answer = n ∙ ap (λ (x : ℕ). Ok (record { used = used; written = x })) all; world = m; log = h.list })
+      rw (tick_said used dt (Ok tt) t) (record { answer = n ∙ ap (λ (x : ℕ). Ok (record { used = used; written = x })) all; world = m; log = h.list })
 
   -- ---- the record call
 

@@ -63,17 +63,17 @@ returns-in-Err c =
     let w = c.args.world in
     is_whole w _ _ (whole (goal.at.returns-in-Err c).Else-broken) c.decode.ensures (is_refused w _ c.in-Err.is c.refused-in-Err.ensures)
 
-pub returns-in-Accepted : goal.returns-in-Accepted
-returns-in-Accepted c =
+pub returns-in-Ok-Accepted : goal.returns-in-Ok-Accepted
+returns-in-Ok-Accepted c =
     let w = c.args.world in
-    is_whole w _ _ (whole (goal.at.returns-in-Accepted c).Else-broken) c.decode.ensures
-    (is_made w _ c.in-Ok.is (is_changed w _ c.in-Accepted.is c.change.ensures c.answered.ensures))
+    is_whole w _ _ (whole (goal.at.returns-in-Ok-Accepted c).Else-broken) c.decode.ensures
+    (is_made w _ c.in-Ok-Accepted.is (is_changed w _ _ _ c.change.ensures c.answered.ensures))
 
 pub returns-in-Err-taken : goal.returns-in-Err-taken
 returns-in-Err-taken c =
     let w = c.args.world in
     is_whole w _ _ (whole (goal.at.returns-in-Err-taken c).Else-broken) c.decode.ensures
-    (is_made w _ c.in-Ok.is (tick_refused w _ c.in-Tick.is (sym c.take_tick-taken.ensures ∙ c.in-Err-taken.is) c.refused-in-Err-taken.ensures))
+    (is_made w _ c.in-Ok-Tick.is (tick_refused w _ _ _ (sym c.take_tick-taken.ensures ∙ c.in-Err-taken.is) c.refused-in-Err-taken.ensures))
 
 -- ---- the moves
 
@@ -93,7 +93,7 @@ loop-i-2-preserved c =
     elim c.if-is_trip.branch [
       | then-is_trip+then-result u ↦ (
         so_far,
-        comes_in (c.in-Tick.dt) _ s.w c.if-is_trip.w _ s.log _ c.if-is_trip.log c.emit-to.result s.i n s.to c.if-is_trip.to trip.result u.if-line-lt8.kind u.if-is_loop.leader u.landing-result.result u.if-asks_work.lamps u.tell-told.result _ _ u.distance_by.result u.come-arrived.result s.invariant.1 refl trip.ensures (rw c.is_trip.ensures at u.if-is_trip.true)
+        comes_in (c.in-Ok-Tick.dt) _ s.w c.if-is_trip.w _ s.log _ c.if-is_trip.log c.emit-to.result s.i n s.to c.if-is_trip.to trip.result u.if-line-lt8.kind u.if-is_loop.leader u.landing-result.result u.if-asks_work.lamps u.tell-told.result _ _ u.distance_by.result u.come-arrived.result s.invariant.1 refl trip.ensures (rw c.is_trip.ensures at u.if-is_trip.true)
             (elim u.if-line-lt8.branch [ then-line-lt8 z ↦ inl (z.if-line-lt8.true, z.kind-is) | else-line-lt8 z ↦ inr (z.if-line-lt8.false, z.kind-is) ])
             (elim u.if-is_loop.branch [ then-is_loop z ↦ inr (z.leader-is ∙ z.leader_of-leader.ensures) | else-is_loop z ↦ inl (rw u.is_loop.ensures at z.if-is_loop.false) ])
             u.landing-result.ensures
@@ -107,7 +107,7 @@ loop-i-2-preserved c =
       )
       | then-is_trip+else-result u ↦ (
         so_far,
-        goes_on_lem (c.in-Tick.dt) _ s.w c.if-is_trip.w _ s.log _ c.if-is_trip.log c.emit-to.result s.i n s.to c.if-is_trip.to trip.result u.if-line-lt8.kind u.if-is_loop.leader u.landing-result.result u.if-asks_work.lamps u.tell-told.result _ _ u.distance_by.result s.invariant.1 refl trip.ensures (rw c.is_trip.ensures at u.if-is_trip.true)
+        goes_on_lem (c.in-Ok-Tick.dt) _ s.w c.if-is_trip.w _ s.log _ c.if-is_trip.log c.emit-to.result s.i n s.to c.if-is_trip.to trip.result u.if-line-lt8.kind u.if-is_loop.leader u.landing-result.result u.if-asks_work.lamps u.tell-told.result _ _ u.distance_by.result s.invariant.1 refl trip.ensures (rw c.is_trip.ensures at u.if-is_trip.true)
             (elim u.if-line-lt8.branch [ then-line-lt8 z ↦ inl (z.if-line-lt8.true, z.kind-is) | else-line-lt8 z ↦ inr (z.if-line-lt8.false, z.kind-is) ])
             (elim u.if-is_loop.branch [ then-is_loop z ↦ inr (z.leader-is ∙ z.leader_of-leader.ensures) | else-is_loop z ↦ inl (rw u.is_loop.ensures at z.if-is_loop.false) ])
             u.landing-result.ensures
@@ -119,7 +119,7 @@ loop-i-2-preserved c =
             u.if-result.false u.w-is u.log-is u.to-is,
         s.invariant.2,
       )
-      | else-is_trip u ↦ (so_far, stays c.in-Tick.dt _ s.w c.if-is_trip.w _ s.log c.if-is_trip.log c.emit-to.result s.i s.to c.if-is_trip.to trip.result s.invariant.1 trip.ensures (rw c.is_trip.ensures at u.if-is_trip.false) u.w-is u.log-is u.to-is, s.invariant.2)
+      | else-is_trip u ↦ (so_far, stays c.in-Ok-Tick.dt _ s.w c.if-is_trip.w _ s.log c.if-is_trip.log c.emit-to.result s.i s.to c.if-is_trip.to trip.result s.invariant.1 trip.ensures (rw c.is_trip.ensures at u.if-is_trip.false) u.w-is u.log-is u.to-is, s.invariant.2)
     ]
 
 -- ---- the doors
@@ -161,7 +161,7 @@ returns c =
     let f : t.i ≡ min s.w.cars.count 16 = omega (arith, n, c.loop-i-3-test.false, t.invariant.0, cars_kept k) in
     let d : min c.min-cars.result 16 ≡ min s.w.cars.count 16 = omega (arith, n, cars_kept k) in
     let r = ended (runs_at t.invariant.1 f) (cleared t.just_opened (calls_kept t.invariant.1) d c.clear_hall_calls-calls.ensures) in
-    let x = doored_after c.in-Tick.dt w k r.0 r.1 in
+    let x = doored_after c.in-Ok-Tick.dt w k r.0 r.1 in
     is_whole w _ _ (whole (goal.at.returns c).Else-broken) c.decode.ensures
-    (is_made w _ c.in-Ok.is (tick_taken_lem w _ c.in-Tick.is (sym c.take_tick-taken.ensures ∙ c.in_default.is) refl
+    (is_made w _ c.in-Ok-Tick.is (tick_taken_lem w _ _ _ (sym c.take_tick-taken.ensures ∙ c.in_default.is) refl
     (ap ticked x.0) (also c.emit-to.ensures x.1)))
