@@ -2,6 +2,7 @@
 use Rattle.std.specs.Prelude.{Bool, false, not, ◌&&◌, ◌||◌, cond, List, [], ◌∷◌, ℕ, zero, suc, ◌+◌, ◌/◌, ◌%◌, ◌^◌, ltb, eqb, length, get_or, set, replicate}
 use Rattle.world.specs.Refusal.{check}
 use Rattle.world.specs.declared.refusal.Refusal.TheVariants.{CutShort, FieldOutside, FloatOutside}
+use Rattle.world.specs.declared.Line.{Line}
 use Rattle.world.specs.declared.LineKind.{LineKind}
 use Rattle.world.specs.declared.LineKind.TheVariants.{Linear, Loop}
 use Rattle.world.specs.declared.Motion.{Motion}
@@ -15,7 +16,6 @@ use Rattle.tape_records.specs.declared.Record.TheVariants as Record
 use Rattle.tape_records.specs.declared.Read.TheVariants.{Accepted}
 use Rattle.tape_records.specs.Answers.{not_stop, not_line, not_car, not_rider, nonzero, million, thousand, ten, Deed}
 use Rattle.tape_loads.specs.declared.RiderBody.{RiderBody}
-use Rattle.world.specs.declared.Line.{Line}
 
 -- ---- 1 line: n number; s 0 linear, 1 loop; v count of served stops, at most 64, or 65,535 for no list
 
@@ -41,6 +41,7 @@ line_floats_outside h ws = eqb h.s 1 && (outside_above_zero (float_at ws 1) mill
 unfoldable pub line_kind_of : Head → List ℕ → LineKind
 line_kind_of h ws = cond (eqb h.s 0) Linear (Loop (float_at ws 1) (float_at ws 3))
 
+-- its kind, and the stops that it serves
 abbrev pub line_row : Head → List ℕ → Line
 line_row h ws =
     let count = serves_count h.v in

@@ -27,6 +27,16 @@ fn serves_count(v: u32) -> Result<usize, Refusal>
     }
 }
 
+// The stop of a number.
+fn stop_of(number: u32) -> Result<u8, Refusal>
+    ensures { result ≡ cond (not_stop number) (Err FieldOutside) (Ok number) }
+{
+    match number {
+        0..=63 => Ok(number as u8),
+        _ => Err(Refusal::FieldOutside),
+    }
+}
+
 // The first `count` served words in order as stops, and zeros; refused where one is no stop's number.
 #[tactic(auto, using(crate::proofs::Serves::served), unfolding(crate::specs::LoadRecords::serves_outside, crate::specs::LoadRecords::serves_to))]
 fn serves_to(words: &[u32], count: usize) -> Result<[u8; 64], Refusal>
@@ -35,10 +45,7 @@ fn serves_to(words: &[u32], count: usize) -> Result<[u8; 64], Refusal>
 {
     let mut serves = [0u8; 64];
     for (i, word) in words[5..5 + count].iter().enumerate() {
-        if *word > 63 {
-            return Err(Refusal::FieldOutside);
-        }
-        serves[i] = *word as u8;
+        serves[i] = stop_of(*word)?;
     }
     Ok(serves)
 }
@@ -208,9 +215,8 @@ fn stop_option(stop: u32) -> Result<Option<u8>, Refusal>
     ensures { result ≡ cond (not_stop stop && not (eqb stop 65535)) (Err FieldOutside) (Ok (stop_option stop)) }
 {
     match stop {
-        0..=63 => Ok(Some(stop as u8)),
         65535 => Ok(None),
-        _ => Err(Refusal::FieldOutside),
+        _ => Ok(Some(stop_of(stop)?)),
     }
 }
 
