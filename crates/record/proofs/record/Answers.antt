@@ -67,13 +67,13 @@ pub returns-in-Ok-Accepted : goal.returns-in-Ok-Accepted
 returns-in-Ok-Accepted c =
     let w = c.args.world in
     is_whole w _ _ (whole (goal.at.returns-in-Ok-Accepted c).Else-broken) c.decode.ensures
-    (is_made w _ c.in-Ok-Accepted.is (is_changed w _ _ _ c.change.ensures c.answered.ensures))
+    (is_made w _ (rw c.in-Ok-Accepted.field-0-is at c.in-Ok-Accepted.is) (is_changed w _ _ _ c.change.ensures c.answered.ensures))
 
 pub returns-in-Err-taken : goal.returns-in-Err-taken
 returns-in-Err-taken c =
     let w = c.args.world in
     is_whole w _ _ (whole (goal.at.returns-in-Err-taken c).Else-broken) c.decode.ensures
-    (is_made w _ c.in-Ok-Tick.is (tick_refused w _ _ _ (sym c.take_tick-taken.ensures ∙ c.in-Err-taken.is) c.refused-in-Err-taken.ensures))
+    (is_made w _ (rw c.in-Ok-Tick.field-0-is at c.in-Ok-Tick.is) (tick_refused w _ _ _ (sym c.take_tick-taken.ensures ∙ c.in-Err-taken.is) c.refused-in-Err-taken.ensures))
 
 -- ---- the moves
 
@@ -163,5 +163,5 @@ returns c =
     let r = ended (runs_at t.invariant.1 f) (cleared t.just_opened (calls_kept t.invariant.1) d c.clear_hall_calls-calls.ensures) in
     let x = doored_after c.in-Ok-Tick.dt w k r.0 r.1 in
     is_whole w _ _ (whole (goal.at.returns c).Else-broken) c.decode.ensures
-    (is_made w _ c.in-Ok-Tick.is (tick_taken_lem w _ _ _ (sym c.take_tick-taken.ensures ∙ c.in_default.is) refl
+    (is_made w _ (rw c.in-Ok-Tick.field-0-is at c.in-Ok-Tick.is) (tick_taken_lem w _ _ _ (sym c.take_tick-taken.ensures ∙ c.in_default.is) refl
     (ap ticked x.0) (also c.emit-to.ensures x.1)))
