@@ -125,7 +125,7 @@ module _
         ajar : Bool
         ajar = open_after i false (log ++ r.words)
 
-    pub run_ran : Held n w.cars log → Ran Keep n w log (run_cars turn w)
+    pub run_ran : Held n w.cars.items w.cars.count log → Ran Keep n w log (run_cars turn w)
     unfolding run_cars run_to
     run_ran h =
         by_turns turn w (λ k. Ran Keep n w log) (min w.cars.count 16) (record { held = rw (append-nil log) h; keeps = same (car_at w.cars.items n) })

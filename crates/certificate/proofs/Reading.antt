@@ -25,7 +25,6 @@ use Rattle.std.specs.Prelude.{Result, Ok, Err}
 use Rattle.tape_loads.specs.LoadRecords.{line_record}
 use Rattle.fields.specs.Fields.{head_of}
 use Rattle.layout.specs.Layout.{kind_of, n_of, v_of}
-use Rattle.tape_records.specs.declared.Decoded.{Decoded}
 use Rattle.tape_records.specs.declared.Read.{Read}
 use Rattle.tape_records.specs.declared.Read.TheVariants.{Accepted, Tick}
 use Rattle.tape_records.specs.declared.Record.{Record}
@@ -38,7 +37,7 @@ use Rattle.world.proofs.Checks.{unless_has}
 
 -- of a mode: Manual only by v 3
 abbrev pub Says : ℕ → Record → Type 0
-Says h (Record.Line number kind listed count) = Unit {0}
+Says h (Record.Line number line) = Unit {0}
 Says h (Record.Stop number position) = Unit {0}
 Says h (Record.Car number plan) = Unit {0}
 Says h (Record.Rider number rider) = Unit {0}
@@ -63,15 +62,15 @@ not_manual v e =
     Tame : ServiceMode → Type 0
     Tame m = is_manual m ≡ false
 
-abbrev pub Brings : ℕ → Result Decoded Refusal → Type 0
+abbrev pub Brings : ℕ → Result Read Refusal → Type 0
 Brings h (Err r) = Unit {0}
-Brings h (Ok d) = Reads h d.read
+Brings h (Ok r) = Reads h r
 
-abbrev Each : (Result Decoded Refusal → Type 0) → ℕ → List Kind → Type 0
+abbrev Each : (Result Read Refusal → Type 0) → ℕ → List Kind → Type 0
 Each P k [] = Unit {0}
 Each P k (t ∷ ts) = (eqb k t.number ≡ true → P (Ok t.deed.done)) × Each P k ts
 
-kind_reads : (P : Result Decoded Refusal → Type 0) (k : ℕ) (ts : List Kind) → ((r : Refusal) → P (Err r)) → Each P k ts → P (kind_in k ts)
+kind_reads : (P : Result Read Refusal → Type 0) (k : ℕ) (ts : List Kind) → ((r : Refusal) → P (Err r)) → Each P k ts → P (kind_in k ts)
 kind_reads P k [] r e = r _
 kind_reads P k (t ∷ ts) r e =
     cases P (eqb k t.number)

@@ -16,6 +16,7 @@ use Rattle.door.specs.declared.DoorState.{DoorState}
 use Rattle.door.specs.declared.DoorState.TheVariants.{Closed}
 use Rattle.world.specs.World.{car_at, no_car, new_car}
 use Rattle.world.specs.With.{with_car, with_cars}
+use Rattle.world.specs.Tables.{with_item}
 use Rattle.sound_rows.specs.Rows.{unloaded}
 use Rattle.sound.specs.Sound.{broken}
 use Rattle.world.specs.Refusal.{Check, unless}
@@ -29,7 +30,6 @@ use Rattle.world.specs.declared.refusal.Refusal.TheVariants.{BrokenWorld}
 use Rattle.tape.specs.Tape.{decoded}
 use Rattle.layout.specs.Layout.{kind_of}
 use Rattle.std.specs.Prelude.{Result, Ok, Err}
-use Rattle.tape_records.specs.declared.Decoded.{Decoded}
 use Rattle.tape_records.specs.declared.Read.{Read}
 use Rattle.tape_records.specs.declared.Read.TheVariants as Read
 use Rattle.tape_records.specs.declared.Record.{Record}
@@ -65,10 +65,10 @@ use Rattle.certificate.proofs.Reading.{Says, Reads, Brings, decoded_reads, Unbro
 -- ---- what a record that is no tick leaves
 
 abbrev pub Sums : World → List ℕ → Type 0
-Sums w j = Summed w.cars w.total_moves j
+Sums w j = Summed w.cars.items w.cars.count w.total_moves j
 
 abbrev pub Holds : ℕ → World → List ℕ → Type 0
-Holds n w j = Held n w.cars j
+Holds n w j = Held n w.cars.items w.cars.count j
 
 sum_same : (f g : ℕ → ℕ) (n : ℕ) → ((i : ℕ) → i < n → f i ≡ g i) → sum_to f n ≡ sum_to g n
 unfolding sum_to
@@ -198,11 +198,11 @@ module _ (w : World) (c : Call) (j : List ℕ) (h : Sums w j) (used : ℕ) where
       → Gives w c j (changed c.log used (load_car w number plan))
   unfolding load_car
   car_kept number plan t =
-      plain (Loads.car_checks w number plan) (with_cars w (set w.cars.items number (new_car plan)) (number + 1)) t
+      plain (Loads.car_checks w number plan) (with_cars w (with_item w.cars number (new_car plan) (number + 1))) t
       (λ q e. new (eqb-true number w.cars.count (not-false (eqb number w.cars.count) (or_right (leb 16 number) (not (eqb number w.cars.count)) q.1.0)))
       (leb-false 16 number (or_left (leb 16 number) (not (eqb number w.cars.count)) q.1.0)))
     where
-      new : number ≡ w.cars.count → number < 16 → Quiet (with_cars w (set w.cars.items number (new_car plan)) (number + 1))
+      new : number ≡ w.cars.count → number < 16 → Quiet (with_cars w (with_item w.cars number (new_car plan) (number + 1)))
       new q l =
           let inside : w.cars.count < length w.cars.items = omega (arith, q, l, h.full) in
           rw q (sum_new (new_car plan) h inside refl, λ n k p. held_new (new_car plan) k inside (record { sound = idle; tame = refl }))
@@ -221,11 +221,11 @@ module _ (w : World) (c : Call) (j : List ℕ) (h : Sums w j) (used : ℕ) where
       (sum_orders car d h inside m, λ n k p. held_orders car d k inside loaded (f n q e p)))
 
 -- a record that was read
-module _ (w : World) (c : Call) (j : List ℕ) (h : Sums w j) (used : ℕ) (serves : List ℕ) where
-  changed_kept : (r : Record) → eqb (kind_of (head_word c)) 12 ≡ false → Says (head_word c) r → Gives w c j (changed c.log used (change_by w serves r))
+module _ (w : World) (c : Call) (j : List ℕ) (h : Sums w j) (used : ℕ) where
+  changed_kept : (r : Record) → eqb (kind_of (head_word c)) 12 ≡ false → Says (head_word c) r → Gives w c j (changed c.log used (change_by w r))
   unfolding load_line load_stop load_rider start send set_mode set_manual_speed queue_command press_hall_call push_destination set_enabled
-  changed_kept (Record.Line number kind listed count) t s =
-      plain w c j h used (Loads.line_checks w number (Loads.line_row kind listed count serves)) _ t (λ q e. (h, λ n k p. k))
+  changed_kept (Record.Line number line) t s =
+      plain w c j h used (Loads.line_checks w number line) _ t (λ q e. (h, λ n k p. k))
   changed_kept (Record.Stop number position) t s = plain w c j h used (Loads.stop_checks w number) _ t (λ q e. (h, λ n k p. k))
   changed_kept (Record.Car number plan) t s = car_kept w c j h used number plan t
   changed_kept (Record.Rider number rider) t s = plain w c j h used (Loads.rider_checks w number rider) _ t (λ q e. (h, λ n k p. k))
@@ -257,14 +257,14 @@ module _ (w : World) (c : Call) (j : List ℕ) (h : Sums w j) (used : ℕ) (serv
       (λ n q e p i f. record { sound = f.sound; tame = f.tame }) refl
   changed_kept Record.Start t s = plain w c j h used (Changes.start_checks w) _ t (λ q e. (h, λ n k p. k))
 
-made_kept : (w : World) (c : Call) (j : List ℕ) → Sums w j → Unbroken w → (serves : List ℕ) (r : Read) → Reads (head_word c) r
-    → Gives w c j (made_of w c.log serves r)
-made_kept w c j h u serves (Read.Accepted read used) s = changed_kept w c j h used serves read s.0 s.1
-made_kept w c j h u serves (Read.Tick dt used) s = tick_kept w c j h used dt u s
+made_kept : (w : World) (c : Call) (j : List ℕ) → Sums w j → Unbroken w → (r : Read) → Reads (head_word c) r
+    → Gives w c j (made_of w c.log r)
+made_kept w c j h u (Read.Accepted read used) s = changed_kept w c j h used read s.0 s.1
+made_kept w c j h u (Read.Tick dt used) s = tick_kept w c j h used dt u s
 
-read_kept : (w : World) (c : Call) (j : List ℕ) → Sums w j → Unbroken w → (d : Result Decoded Refusal) → Brings (head_word c) d → Gives w c j (read_by w c.log d)
+read_kept : (w : World) (c : Call) (j : List ℕ) → Sums w j → Unbroken w → (d : Result Read Refusal) → Brings (head_word c) d → Gives w c j (read_by w c.log d)
 read_kept w c j h u (Err r) s = refuses w c j h 0 r
-read_kept w c j h u (Ok d) s = made_kept w c j h u d.serves d.read s
+read_kept w c j h u (Ok d) s = made_kept w c j h u d s
 
 record_kept : (w : World) (c : Call) (j : List ℕ) → Sums w j → Gives w c j (record_of w c.words c.log)
 unfolding record_of

@@ -40,7 +40,7 @@ Rests c d = is_closed c.door ≡ false → d ≡ c
 rests_then : (a b c : Car) → Rests a b → Rests b c → Rests a c
 rests_then a b c p q h = q (rw (p h) h) ∙ p h
 
-moved_ran : (n : ℕ) (w : World) (dt : Float) (log : List ℕ) → length w.cars.items ≡ 16 → Held n w.cars log → Ran Rests n w log (moved w dt)
+moved_ran : (n : ℕ) (w : World) (dt : Float) (log : List ℕ) → length w.cars.items ≡ 16 → Held n w.cars.items w.cars.count log → Ran Rests n w log (moved w dt)
 unfolding moved
 moved_ran n w dt log =
     run_ran (move_of dt) Rests (λ c e. refl) rests_then (λ v i o l f. move_good v i o l f dt) (λ v i o l f. move_rests v i o l f dt) (move_silent dt) n w log
@@ -49,7 +49,7 @@ moved_ran n w dt log =
 abbrev Stands : Car → Car → Type 0
 Stands c d = d.motion ≡ c.motion
 
-doored_ran : (n : ℕ) (w : World) (log : List ℕ) → length w.cars.items ≡ 16 → Held n w.cars log → Ran Stands n w log (doored w)
+doored_ran : (n : ℕ) (w : World) (log : List ℕ) → length w.cars.items ≡ 16 → Held n w.cars.items w.cars.count log → Ran Stands n w log (doored w)
 unfolding doored
 doored_ran n w log = run_ran door_of Stands (λ c. refl) (λ a b c p q. q ∙ p) door_good (λ v i o l f. door_stands v i) door_silent n w log
 
@@ -61,8 +61,8 @@ module _ (i : ℕ) (o : Bool) where
   match_told None n h = told_none i o
   match_told (Some j) n h =
       told_join
-      (both (Told i o o) (clears h.up j.stop j.going_up) (told_dull i o 9 n j.stop (bit false) refl refl refl) (told_none i o))
-      (both (Told i o o) (clears h.down j.stop j.going_down) (told_dull i o 9 n j.stop (bit true) refl refl refl) (told_none i o))
+      (both (Told i o o) (clears h.up j.stop j.lamps.going_up) (told_dull i o 9 n j.stop (bit false) refl refl refl) (told_none i o))
+      (both (Told i o o) (clears h.down j.stop j.lamps.going_down) (told_dull i o 9 n j.stop (bit true) refl refl refl) (told_none i o))
 
   calls_told : (os : List (Option JustOpened)) (h : Standing) (n : ℕ) → Told i o o (clear_words_to os h n)
   unfolding clear_words_to
@@ -100,7 +100,7 @@ pub record Ticks (n : ℕ) (w : World) (dt : Float) (log : List ℕ) : Type 0 wh
 regroup : (l : List ℕ) (x : ℕ) (a b c : List ℕ) → l ++ (x ∷ (a ++ (b ++ c))) ≡ l ++ (x ∷ []) ++ a ++ b ++ c
 regroup l x a b c = simp append_assoc
 
-pub tick_ticks : (n : ℕ) (w : World) (dt : Float) (log : List ℕ) → length w.cars.items ≡ 16 → Held n w.cars log → Ticks n w dt log
+pub tick_ticks : (n : ℕ) (w : World) (dt : Float) (log : List ℕ) → length w.cars.items ≡ 16 → Held n w.cars.items w.cars.count log → Ticks n w dt log
 unfolding tick_world tick_words doors_world doors_words
 tick_ticks n w dt log full h = record {
   held = rw (doored_count v, regroup log (word_of (TickMade w.ticks)) (moved w dt).words (doored v).words (clear_words_to os (standing v) (cars_of v)))
@@ -127,7 +127,7 @@ tick_ticks n w dt log full h = record {
 all_cars : (n : ℕ) → n ≤ 16 → min n 16 ≡ n
 all_cars n h = omega arith
 
-pub tick_sums : (w : World) (dt : Float) (log : List ℕ) → w.cars.count ≤ 16 → Low w → Summed w.cars w.total_moves log
+pub tick_sums : (w : World) (dt : Float) (log : List ℕ) → w.cars.count ≤ 16 → Low w → Summed w.cars.items w.cars.count w.total_moves log
     → Summed (tick_world w dt).cars.items (tick_world w dt).cars.count (tick_world w dt).total_moves (log ++ tick_words w dt)
 unfolding NothingWraps
 tick_sums w dt log few low s = record {

@@ -28,12 +28,13 @@ use Rattle.trips.specs.declared.Trip.{Trip}
 use Rattle.movement_system.specs.Passing.{passing_words}
 use Rattle.movement_system.specs.Movement.{move_of}
 use Rattle.movement_system.proofs.Cases.{move_cases}
-use Rattle.door_commands.specs.Commands.{queued, tried_on, work_to, work_words_to, process_door_commands, command_words}
+use Rattle.door_commands.specs.Commands.{queued, tried_on, applied_words, work_to, work_words_to, process_door_commands, command_words}
 use Rattle.door_commands.proofs.Keeping.{commands_keep}
 use Rattle.doors_system.specs.Doors.{door_turn, door_of}
 use Rattle.door_ticks.specs.Ticks.{Turn, departed_from, finished_opening, finished_closing, finish_by, rests, door_by}
 use Rattle.door_ticks.proofs.Cases.{door_cases}
 use Rattle.door_commands.specs.declared.Work.{Work}
+use Rattle.door_commands.specs.declared.Doorway.{Doorway}
 use Rattle.laws.proofs.Choices.{both}
 use Rattle.certificate.proofs.Watch.{Told, Silent, told_none, told_join, told_dull, told_word, told_other}
 
@@ -136,17 +137,19 @@ module _ (w : World) (i : ℕ) (o : Bool) (low : i < 16) (f : Fit (car_at w.cars
 -- ---- door commands
 
 commands_sound : (c : Car) (at traversing : Bool) (o : Bool) → Sound c.phase c.door o
-    → Sound (process_door_commands c at traversing).phase (process_door_commands c at traversing).doorway.door o
+    → Sound (process_door_commands c at traversing).doorway.phase (process_door_commands c at traversing).doorway.door o
 commands_sound c at traversing o = commands_keep (λ p d. Sound p d o) (λ a b. opening) (λ a. closing) (λ a b cd s. loading) c at traversing
+
+applied_told : (n : ℕ) (o : Bool) (i : ℕ) (q : DoorCommand) (t : Option Doorway) → Told n o o (applied_words i q t)
+applied_told n o i q None = told_none n o
+applied_told n o i q (Some d) = told_dull n o 10 i (code_of q) (ticks_of q) refl refl refl
 
 words_told : (n : ℕ) (o : Bool) (c : Car) (at traversing : Bool) (i m : ℕ) → Told n o o (work_words_to c at traversing i m)
 unfolding work_words_to
 words_told n o c at traversing i zero = told_none n o
 words_told n o c at traversing i (suc m) =
     let q : DoorCommand = queued c at traversing m in
-    told_join (words_told n o c at traversing i m)
-    (both (Told n o o) (tried_on c at traversing (work_to c at traversing m) q).applied
-    (told_dull n o 10 i (code_of q) (ticks_of q) refl refl refl) (told_none n o))
+    told_join (words_told n o c at traversing i m) (applied_told n o i q (tried_on c at traversing (work_to c at traversing m) q))
 
 -- ---- the door's tick
 

@@ -66,7 +66,7 @@ pub record Examples : Type 0 where
   pub moves : (world_after empty_world tape).total_moves ≡ 3
   -- the tape's second tick begins with a door that is not closed
   pub ticks : is_tick (world_after empty_world departure) (call half) ≡ true
-  pub ajar : is_closed (car_at (world_after empty_world departure).cars 0).door ≡ false
+  pub ajar : is_closed (car_at (world_after empty_world departure).cars.items 0).door ≡ false
   -- with a car in Manual mode, which passes stop 1 with its door open, two of its parts do not hold
   pub puts : NoManual empty_world manual → ⊥
   pub drives : joined empty_world manual ≡ 0x0000_0000 ∷ 0xa000_0000 ∷ 0x6000_0000 ∷ 0x0000_0001 ∷ 0x1001_0001 ∷ []

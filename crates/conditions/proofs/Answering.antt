@@ -12,6 +12,7 @@ use lib.Ieee.{Float}
 use borrow.Author.Tests.{ltb-false, eqb-false}
 use Rattle.world.specs.World.{car_at, new_car}
 use Rattle.world.specs.With.{with_car, with_cars}
+use Rattle.world.specs.Tables.{with_item}
 use Rattle.sound.specs.Sound.{broken}
 use Rattle.world.specs.Refusal.{Check, check, unless}
 use Rattle.world.specs.declared.World.{World}
@@ -23,14 +24,13 @@ use Rattle.tape.specs.Tape.{Kind, kinds, kind_in, decoded}
 use Rattle.fields.specs.Fields.{head_of}
 use Rattle.layout.specs.Layout.{kind_of}
 use Rattle.tape.specs.Facts.{Facts, InBounds, ReadInBounds}
-use Rattle.tape_records.specs.declared.Decoded.{Decoded}
 use Rattle.tape_records.specs.declared.Read.{Read}
 use Rattle.tape_records.specs.declared.Read.TheVariants as Read
 use Rattle.tape_records.specs.declared.Record.{Record}
 use Rattle.tape_records.specs.declared.Record.TheVariants.{Line, Stop, Car, Rider, Send, Mode, ManualSpeed, DoorCommand, HallCall, Destination, Enable, Start}
 use Rattle.tape.proofs.Bounds.{in_bounds}
 use Rattle.changes.specs.Changes as Changes
-use Rattle.loads.specs.Loads.{line_row, line_checks, with_line, load_line, stop_checks, with_stop, load_stop, car_checks, load_car, rider_checks, with_rider, load_rider}
+use Rattle.loads.specs.Loads.{line_checks, with_line, load_line, stop_checks, with_stop, load_stop, car_checks, load_car, rider_checks, with_rider, load_rider}
 use Rattle.changes.specs.Changes.{start_checks, with_start, start}
 use Rattle.changes.specs.declared.Changed.{Changed}
 use Rattle.orders.specs.Orders.{send_checks, sent, send}
@@ -51,29 +51,29 @@ use Rattle.conditions.specs.Conditions.{Kept, FirstCondition}
 -- ---- the checks of a call, in the order in which the definition makes them
 
 -- the conditions that the state brings, in the order of their numbers
-abbrev pub state_checks : World → List ℕ → Record → List Check
-state_checks w serves (Line number kind listed count) = line_checks w number (line_row kind listed count serves)
-state_checks w serves (Stop number position) = stop_checks w number
-state_checks w serves (Car number plan) = car_checks w number plan
-state_checks w serves (Rider number rider) = rider_checks w number rider
-state_checks w serves (Send car stop reposition) = send_checks w car stop
-state_checks w serves (Mode car mode) = order_checks w car
-state_checks w serves (ManualSpeed car speed) = order_checks w car
-state_checks w serves (DoorCommand car command) = command_checks w car
-state_checks w serves (HallCall stop down) = call_checks w stop
-state_checks w serves (Destination car stop) = destination_checks w car stop
-state_checks w serves (Enable car enabled) = order_checks w car
-state_checks w serves Start = start_checks w
+abbrev pub state_checks : World → Record → List Check
+state_checks w (Line number line) = line_checks w number line
+state_checks w (Stop number position) = stop_checks w number
+state_checks w (Car number plan) = car_checks w number plan
+state_checks w (Rider number rider) = rider_checks w number rider
+state_checks w (Send car stop reposition) = send_checks w car stop
+state_checks w (Mode car mode) = order_checks w car
+state_checks w (ManualSpeed car speed) = order_checks w car
+state_checks w (DoorCommand car command) = command_checks w car
+state_checks w (HallCall stop down) = call_checks w stop
+state_checks w (Destination car stop) = destination_checks w car stop
+state_checks w (Enable car enabled) = order_checks w car
+state_checks w Start = start_checks w
 
-abbrev pub behind : World → List ℕ → List ℕ → Read → List Check
-behind w log serves (Read.Accepted read used) = state_checks w serves read
-behind w log serves (Read.Tick dt used) = checks_of_tick w log
+abbrev pub behind : World → List ℕ → Read → List Check
+behind w log (Read.Accepted read used) = state_checks w read
+behind w log (Read.Tick dt used) = checks_of_tick w log
 
 -- a kind's conditions: those that the input brings, then the state's
 abbrev pub checks_in : World → List ℕ → ℕ → List Kind → List Check
 checks_in w log k [] = check UnknownKind true ∷ []
 checks_in w log k (t ∷ ts) =
-    cond (eqb k t.number) (t.deed.checks ++ behind w log t.deed.done.serves t.deed.done.read) (checks_in w log k ts)
+    cond (eqb k t.number) (t.deed.checks ++ behind w log t.deed.done) (checks_in w log k ts)
 
 -- all conditions of a call, "in the order of the numbers, 2 before a short body"; "A line's count outside its codes is found before the body is measured."
 unfoldable pub conditions : World → List ℕ → List ℕ → List Check
@@ -177,46 +177,45 @@ module _ (w : World) (words lent : List ℕ) where
         (λ q. ticked_kept used dt (ltb-false (length lent) (room_of w) q.1.1.0) (g.0, g.1) g.2);
   }
 
-  fine_taken : (used : ℕ) (serves : List ℕ) (read : Record) → Fine (state_checks w serves read) (Fits read used) (changed lent used (change_by w serves read))
+  fine_taken : (used : ℕ) (read : Record) → Fine (state_checks w read) (Fits read used) (changed lent used (change_by w read))
   unfolding load_line load_stop load_car load_rider send set_mode set_manual_speed queue_command press_hall_call push_destination set_enabled start
-  fine_taken used serves (Line number kind listed count) =
-      let row = line_row kind listed count serves in some_fine (λ g. (g.0, g.1)) (fine_changed used (line_checks w number row) (with_line w number row))
-  fine_taken used serves (Stop number position) = some_fine (λ g. (g.0, g.1)) (fine_changed used (stop_checks w number) (with_stop w number position))
-  fine_taken used serves (Car number plan) =
-      some_fine (λ g. (g.0, g.1)) (fine_changed used (car_checks w number plan) (with_cars w (set w.cars.items number (new_car plan)) (number + 1)))
-  fine_taken used serves (Rider number rider) = some_fine (λ g. (g.0, g.1)) (fine_changed used (rider_checks w number rider) (with_rider w number rider))
-  fine_taken used serves (Send car stop reposition) =
+  fine_taken used (Line number line) = some_fine (λ g. (g.0, g.1)) (fine_changed used (line_checks w number line) (with_line w number line))
+  fine_taken used (Stop number position) = some_fine (λ g. (g.0, g.1)) (fine_changed used (stop_checks w number) (with_stop w number position))
+  fine_taken used (Car number plan) =
+      some_fine (λ g. (g.0, g.1)) (fine_changed used (car_checks w number plan) (with_cars w (with_item w.cars number (new_car plan) (number + 1))))
+  fine_taken used (Rider number rider) = some_fine (λ g. (g.0, g.1)) (fine_changed used (rider_checks w number rider) (with_rider w number rider))
+  fine_taken used (Send car stop reposition) =
       some_fine (λ g. (g.0, g.1)) (fine_changed used (send_checks w car stop) (with_car w car (sent (car_at w.cars.items car) stop reposition)))
-  fine_taken used serves (Mode car mode) = some_fine (λ g. (g.0, g.1)) (fine_changed used (order_checks w car) (with_car w car (in_mode (car_at w.cars.items car) mode)))
-  fine_taken used serves (ManualSpeed car speed) =
+  fine_taken used (Mode car mode) = some_fine (λ g. (g.0, g.1)) (fine_changed used (order_checks w car) (with_car w car (in_mode (car_at w.cars.items car) mode)))
+  fine_taken used (ManualSpeed car speed) =
       some_fine (λ g. (g.0, g.1)) (fine_changed used (order_checks w car) (with_car w car (at_speed (car_at w.cars.items car) speed)))
-  fine_taken used serves (DoorCommand car command) =
+  fine_taken used (DoorCommand car command) =
       some_fine (λ g. (g.0, g.1)) (fine_changed used (command_checks w car) (with_car w car (commanded (car_at w.cars.items car) command)))
-  fine_taken used serves (HallCall stop down) = some_fine (λ g. (g.0, g.1)) (fine_changed used (call_checks w stop) (with_call w stop down))
-  fine_taken used serves (Destination car stop) =
+  fine_taken used (HallCall stop down) = some_fine (λ g. (g.0, g.1)) (fine_changed used (call_checks w stop) (with_call w stop down))
+  fine_taken used (Destination car stop) =
       some_fine (λ g. (g.0, g.1)) (fine_changed used (destination_checks w car stop) (with_car w car (destined (car_at w.cars.items car) stop)))
-  fine_taken used serves (Enable car enabled) =
+  fine_taken used (Enable car enabled) =
       some_fine (λ g. (g.0, g.1)) (fine_changed used (order_checks w car) (with_car w car (marked (car_at w.cars.items car) enabled)))
-  fine_taken used serves Start = some_fine (λ g. (g.0, g.1)) (fine_changed used (start_checks w) (with_start w))
+  fine_taken used Start = some_fine (λ g. (g.0, g.1)) (fine_changed used (start_checks w) (with_start w))
 
-  fine_read : (serves : List ℕ) (read : Read) → Fine (behind w lent serves read) (ReadInBounds words read) (made_of w lent serves read)
+  fine_read : (read : Read) → Fine (behind w lent read) (ReadInBounds words read) (made_of w lent read)
   unfolding Answers
-  fine_read serves (Read.Accepted read used) = fine_taken used serves read
-  fine_read serves (Read.Tick dt used) = fine_tick used dt
+  fine_read (Read.Accepted read used) = fine_taken used read
+  fine_read (Read.Tick dt used) = fine_tick used dt
 
   -- ---- the tape's checks before it
 
-  abbrev answered : Result Decoded Refusal → Outcome
+  abbrev answered : Result Read Refusal → Outcome
   answered d = read_by w lent d
 
-  kept_by : (d : Result Decoded Refusal) → InBounds words d → Kept w words lent (answered d)
+  kept_by : (d : Result Read Refusal) → InBounds words d → Kept w words lent (answered d)
   kept_by (Err r) g = refused_kept r
-  kept_by (Ok d) g = (fine_read d.serves d.read).kept g
+  kept_by (Ok d) g = (fine_read d).kept g
 
-  tape_unless : (cs ds : List Check) (d : Result Decoded Refusal) → Answers ds (answered d).answer → Answers (cs ++ ds) (answered (unless cs Err d)).answer
-  tape_unless cs ds d = unless_answers (λ (x : Result Decoded Refusal). (answered x).answer) cs ds Err d (λ r. refl)
+  tape_unless : (cs ds : List Check) (d : Result Read Refusal) → Answers ds (answered d).answer → Answers (cs ++ ds) (answered (unless cs Err d)).answer
+  tape_unless cs ds d = unless_answers (λ (x : Result Read Refusal). (answered x).answer) cs ds Err d (λ r. refl)
 
-  either : (b : Bool) (cs ds : List Check) (c d : Result Decoded Refusal) →
+  either : (b : Bool) (cs ds : List Check) (c d : Result Read Refusal) →
       Answers cs (answered c).answer → Answers ds (answered d).answer → Answers (cond b cs ds) (answered (cond b c d)).answer
   either true cs ds c d g h = g
   either false cs ds c d g h = h
@@ -225,8 +224,8 @@ module _ (w : World) (words lent : List ℕ) where
   unfolding Answers
   in_kinds k [] = inl (refl, refl)
   in_kinds k (t ∷ ts) =
-      either (eqb k t.number) (t.deed.checks ++ behind w lent t.deed.done.serves t.deed.done.read) (checks_in w lent k ts) (TapeAnswers.answer t.deed) (kind_in k ts)
-      (tape_unless t.deed.checks _ (Ok t.deed.done) (fine_read t.deed.done.serves t.deed.done.read).answers)
+      either (eqb k t.number) (t.deed.checks ++ behind w lent t.deed.done) (checks_in w lent k ts) (TapeAnswers.answer t.deed) (kind_in k ts)
+      (tape_unless t.deed.checks _ (Ok t.deed.done) (fine_read t.deed.done).answers)
       (in_kinds k ts)
 
 pub on_its_condition : OnItsCondition

@@ -184,11 +184,11 @@ calls_decided stops calls = record {
 -- ---- a line, a car, a rider
 
 abbrev pub InLine : ℕ → Line → Type 0
-InLine stops l = (64 < l.serves_count) ⊎ AnyBelow l.serves_count (λ i. stops ≤ get_or l.serves i 0)
+InLine stops l = (64 < l.serves.stops.count) ⊎ AnyBelow l.serves.stops.count (λ i. stops ≤ get_or l.serves.stops.items i 0)
 
 pub line_decided : (stops : ℕ) (l : Line) → Decides (InLine stops l) (line_broken stops l)
 unfolding line_broken
-line_decided stops l = less 64 l.serves_count or any (λ i. most stops (get_or l.serves i 0)) l.serves_count
+line_decided stops l = less 64 l.serves.stops.count or any (λ i. most stops (get_or l.serves.stops.items i 0)) l.serves.stops.count
 
 abbrev InCar : ℕ → ℕ → Car → Type 0
 InCar lines stops c =

@@ -22,6 +22,7 @@ use Rattle.world.specs.World.{car_at}
 use Rattle.world.specs.Refusal.{Check}
 use Rattle.world.specs.declared.World.{World}
 use Rattle.world.specs.declared.LineKind.{LineKind}
+use Rattle.world.specs.declared.Line.{Line}
 use Rattle.world.specs.declared.ElevatorPhase.{ElevatorPhase}
 use Rattle.world.specs.declared.ElevatorPhase.TheVariants.{Idle, MovingToStop, Repositioning, DoorOpening, Loading, DoorClosing, Stopped}
 use Rattle.world.specs.declared.RiderPhase.{RiderPhase}
@@ -32,7 +33,6 @@ use Rattle.tape_loads.specs.LoadRecords.{serves_count, serves_outside, serves_to
 use Rattle.tape_loads.proofs.Serves.{count_small}
 use Rattle.tape_orders.specs.OrderRecords.{send_record, mode_record, manual_speed_record, door_command_record, hall_call_record, destination_record, enable_record, tick_record, start_record}
 use Rattle.tape.specs.Tape.{Kind, kinds}
-use Rattle.loads.specs.Loads.{line_row}
 use Rattle.changes.specs.Changes.{no_such_car}
 use Rattle.orders.specs.Orders.{can_go}
 use Rattle.tick.specs.Room.{room_for}
@@ -167,15 +167,18 @@ few : (words : List ℕ) → ((64 < v words) × (v words ≡ 65535 → ⊥) → 
 unfolding serves_count
 few words h = count_small (v words) (fails (less 64 (v words) and non (same (v words) 65535)) h)
 
+abbrev list_row : LineKind → Bool → List ℕ → ℕ → Line
+list_row k b words count = record { kind = k; serves = record { listed = b; stops = record { items = serves_to words count; count = count } } }
+
 list_decided : (stops : ℕ) (words : List ℕ) (count : ℕ) (k : LineKind) (b : Bool) → count ≤ 64
-    → Decides (AnyBelow count (λ i. stops ≤ get_or words (5 + i) 0)) (line_broken stops (line_row k b count (serves_to words count)))
-list_decided stops words count k b f = through to back (line_decided stops (line_row k b count (serves_to words count)))
+    → Decides (AnyBelow count (λ i. stops ≤ get_or words (5 + i) 0)) (line_broken stops (list_row k b words count))
+list_decided stops words count k b f = through to back (line_decided stops (list_row k b words count))
   where
-    to : InLine stops (line_row k b count (serves_to words count)) → AnyBelow count (λ i. stops ≤ get_or words (5 + i) 0)
+    to : InLine stops (list_row k b words count) → AnyBelow count (λ i. stops ≤ get_or words (5 + i) 0)
     to (inl h) = absurd (omega arith)
     to (inr x) = (x.0, x.1, subst (λ (y : ℕ). stops ≤ y) (serves_at words count x.0 f x.1) x.2)
 
-    back : AnyBelow count (λ i. stops ≤ get_or words (5 + i) 0) → InLine stops (line_row k b count (serves_to words count))
+    back : AnyBelow count (λ i. stops ≤ get_or words (5 + i) 0) → InLine stops (list_row k b words count)
     back x = inr (x.0, x.1, subst⁻¹ (λ (y : ℕ). stops ≤ y) (serves_at words count x.0 f x.1) x.2)
 
 -- ---- a rider's record
@@ -251,7 +254,7 @@ module _ (x : Verdict) (w : World) (words log : List ℕ) where
 
   -- a kind's checks
   abbrev read_in : Deed → List Check
-  read_in d = d.checks ++ behind w log d.done.serves d.done.read
+  read_in d = d.checks ++ behind w log d.done
 
   abbrev head : Head
   head = head_of (get_or words 0 0)

@@ -104,7 +104,7 @@ pub data Broken (w : World) : Type 0 where
   lines_above : 8 < w.lines.count → Broken w
   cars_above : 16 < w.cars.count → Broken w
   riders_above : 128 < w.riders.count → Broken w
-  list_above : (l : ℕ) → l < w.lines.count → 64 < (line_at w.lines.items l).serves_count → Broken w
+  list_above : (l : ℕ) → l < w.lines.count → 64 < (line_at w.lines.items l).serves.stops.count → Broken w
   -- ".. or limit": tick 268,435,455 is the last that is made
   ticks_above : 268435456 < w.ticks → Broken w
   -- "a queue above 8"
@@ -115,8 +115,8 @@ pub data Broken (w : World) : Type 0 where
   moves_high : (c : ℕ) → c < w.cars.count → 2 ^ 48 ≤ (car_at w.cars.items c).move_count → Broken w
   -- "or a number in it that is not loaded", which is one that is not below the count of its table: in a line's list
   listed_unloaded :
-      (l i : ℕ) → l < w.lines.count → i < (line_at w.lines.items l).serves_count
-      → w.stops.count ≤ get_or (line_at w.lines.items l).serves i 0 → Broken w
+      (l i : ℕ) → l < w.lines.count → i < (line_at w.lines.items l).serves.stops.count
+      → w.stops.count ≤ get_or (line_at w.lines.items l).serves.stops.items i 0 → Broken w
   -- a car's line, the stop of its phase, its target, its destinations
   line_unloaded : (c : ℕ) → c < w.cars.count → w.lines.count ≤ (car_at w.cars.items c).line → Broken w
   moving_unloaded :

@@ -91,17 +91,17 @@ module _ (a b : ℕ) (more : a ≤ b) where
   rider_phase_stays Resident h = refl
 
 -- a line's list
-pub listed : (stops : ℕ) (l : Line) → line_broken stops l ≡ false → (k : ℕ) → k < l.serves_count → unloaded stops (get_or l.serves k 0) ≡ false
+pub listed : (stops : ℕ) (l : Line) → line_broken stops l ≡ false → (k : ℕ) → k < l.serves.stops.count → unloaded stops (get_or l.serves.stops.items k 0) ≡ false
 unfolding line_broken
 listed stops l h =
-    let f : ℕ → Bool = λ k. unloaded stops (get_or l.serves k 0) in
-    none_of f l.serves_count (or_right (ltb 64 l.serves_count) (any_to f l.serves_count) h)
+    let f : ℕ → Bool = λ k. unloaded stops (get_or l.serves.stops.items k 0) in
+    none_of f l.serves.stops.count (or_right (ltb 64 l.serves.stops.count) (any_to f l.serves.stops.count) h)
 
 pub line_stays : (a b : ℕ) → a ≤ b → (l : Line) → line_broken a l ≡ false → line_broken b l ≡ false
 unfolding line_broken
 line_stays a b more l h =
-    let few : ltb 64 l.serves_count ≡ false = or_left (ltb 64 l.serves_count) (any_to (λ k. unloaded a (get_or l.serves k 0)) l.serves_count) h in
-    rw few (none_to (λ k. unloaded b (get_or l.serves k 0)) l.serves_count (λ k m. still_loaded a b more (get_or l.serves k 0) (listed a l h k m)))
+    let few : ltb 64 l.serves.stops.count ≡ false = or_left (ltb 64 l.serves.stops.count) (any_to (λ k. unloaded a (get_or l.serves.stops.items k 0)) l.serves.stops.count) h in
+    rw few (none_to (λ k. unloaded b (get_or l.serves.stops.items k 0)) l.serves.stops.count (λ k m. still_loaded a b more (get_or l.serves.stops.items k 0) (listed a l h k m)))
 
 pub rider_stays : (a b m n : ℕ) → a ≤ b → m ≤ n → (r : Rider) → rider_broken a m r ≡ false → rider_broken b n r ≡ false
 unfolding rider_broken

@@ -31,13 +31,12 @@ use Rattle.world.specs.declared.refusal.Refusal.{Refusal}
 use Rattle.tape.specs.Tape.{decoded}
 use Rattle.tape.specs.Facts.{InBounds, Facts}
 use Rattle.tape.proofs.Bounds.{in_bounds}
-use Rattle.tape_records.specs.declared.Decoded.{Decoded}
 use Rattle.tape_records.specs.declared.Read.{Read}
 use Rattle.tape_records.specs.declared.Read.TheVariants as Read
 use Rattle.tape_records.specs.declared.Record.{Record}
 use Rattle.tape_records.specs.declared.Record.TheVariants as Record
 use Rattle.changes.specs.Changes as Changes
-use Rattle.loads.specs.Loads.{count_with, line_row, line_checks, stop_checks, car_checks, rider_checks, load_line, load_stop, load_car, load_rider}
+use Rattle.loads.specs.Loads.{count_with, line_checks, stop_checks, car_checks, rider_checks, load_line, load_stop, load_car, load_rider}
 use Rattle.changes.specs.Changes.{not_next, no_such_car, start_checks, start}
 use Rattle.changes.specs.declared.Changed.{Changed}
 use Rattle.orders.specs.Orders.{send_checks, sent, send}
@@ -105,9 +104,9 @@ module _ (w : World) (h : Sound w) (log : List ℕ) (used : ℕ) where
 
   -- ---- loading
 
-  line_keeps : (number : ℕ) (kind : LineKind) (listed : Bool) (count : ℕ) (serves : List ℕ) → Keeps (load_line w number kind listed count serves)
+  line_keeps : (number : ℕ) (row : Line) → Keeps (load_line w number row)
   unfolding load_line line_broken any_to
-  line_keeps number kind listed count serves =
+  line_keeps number row =
       unless_keeps (line_checks w number row) _ refl
       (λ q. let n : (number < 8) × (number ≡ w.lines.count) = is_next 8 w.lines.count number q.1.0 in
       record {
@@ -127,9 +126,6 @@ module _ (w : World) (h : Sound w) (log : List ℕ) (used : ℕ) where
               calls = h.shape.calls;
             };
       })
-    where
-      row : Line
-      row = line_row kind listed count serves
 
   stop_keeps : (number : ℕ) (position : Float) → Keeps (load_stop w number position)
   unfolding load_stop
@@ -308,27 +304,27 @@ module _ (w : World) (h : Sound w) (log : List ℕ) (used : ℕ) where
       unless_has Good (checks_of_tick w log) (refused w log) (ticked w log used dt) (λ r q. refused_good w log r h (first_of positive (checks_of_tick w log) refl q))
       (λ q. record { world = tick_sound w dt (leb-false (2 ^ 28) w.ticks q.1.0) h; answer = omega arith })
 
-  changed_good : (serves : List ℕ) (read : Record) → Good (changed log used (change_by w serves read))
-  changed_good serves (Record.Line number kind listed count) = line_keeps number kind listed count serves
-  changed_good serves (Record.Stop number position) = stop_keeps number position
-  changed_good serves (Record.Car number plan) = car_keeps number plan
-  changed_good serves (Record.Rider number rider) = rider_keeps number rider
-  changed_good serves (Record.Send car stop reposition) = send_keeps car stop reposition
-  changed_good serves (Record.Mode car mode) = mode_keeps car mode
-  changed_good serves (Record.ManualSpeed car speed) = speed_keeps car speed
-  changed_good serves (Record.DoorCommand car command) = command_keeps car command
-  changed_good serves (Record.HallCall stop down) = press_keeps stop down
-  changed_good serves (Record.Destination car stop) = destination_keeps car stop
-  changed_good serves (Record.Enable car enabled) = enable_keeps car enabled
-  changed_good serves Record.Start = start_keeps
+  changed_good : (read : Record) → Good (changed log used (change_by w read))
+  changed_good (Record.Line number line) = line_keeps number line
+  changed_good (Record.Stop number position) = stop_keeps number position
+  changed_good (Record.Car number plan) = car_keeps number plan
+  changed_good (Record.Rider number rider) = rider_keeps number rider
+  changed_good (Record.Send car stop reposition) = send_keeps car stop reposition
+  changed_good (Record.Mode car mode) = mode_keeps car mode
+  changed_good (Record.ManualSpeed car speed) = speed_keeps car speed
+  changed_good (Record.DoorCommand car command) = command_keeps car command
+  changed_good (Record.HallCall stop down) = press_keeps stop down
+  changed_good (Record.Destination car stop) = destination_keeps car stop
+  changed_good (Record.Enable car enabled) = enable_keeps car enabled
+  changed_good Record.Start = start_keeps
 
-made_good : (w : World) (log serves : List ℕ) (read : Read) → Sound w → Good (made_of w log serves read)
-made_good w log serves (Read.Accepted read used) h = changed_good w h log used serves read
-made_good w log serves (Read.Tick dt used) h = tick_keeps w h log used dt
+made_good : (w : World) (log : List ℕ) (read : Read) → Sound w → Good (made_of w log read)
+made_good w log (Read.Accepted read used) h = changed_good w h log used read
+made_good w log (Read.Tick dt used) h = tick_keeps w h log used dt
 
-read_good : (w : World) (words log : List ℕ) (d : Result Decoded Refusal) → Sound w → InBounds words d → Good (read_by w log d)
+read_good : (w : World) (words log : List ℕ) (d : Result Read Refusal) → Sound w → InBounds words d → Good (read_by w log d)
 read_good w words log (Err r) h b = record { world = h; answer = b.0 }
-read_good w words log (Ok d) h b = made_good w log d.serves d.read h
+read_good w words log (Ok d) h b = made_good w log d h
 
 pub record_good : (w : World) (words log : List ℕ) → Sound w → Good (record_of w words log)
 unfolding record_of Facts

@@ -22,7 +22,7 @@ use Rattle.std.specs.declared.option.Option.TheVariants.{None, Some}
 use Rattle.next_stop.specs.NextStop.{loop_next_stop_forward, next_stop_by, loop_next_stop_for_car}
 use Rattle.next_stop.proofs.Served.{next_is_served}
 use Rattle.steps.specs.Steps.{line_of}
-use Rattle.world.specs.declared.Queue.{Queue}
+use Rattle.world.specs.Tables.{Queue}
 use Rattle.arrival.specs.Arrival.{shifted, popped}
 use Rattle.movement_system.specs.Movement.{move_of}
 use Rattle.movement_system.proofs.Cases.{move_cases}
@@ -47,7 +47,7 @@ pub record CarIn (lines stops : ℕ) (c : Car) : Type 0 where
   pub line : c.line < lines
   pub phase : phase_unloaded stops c.phase ≡ false
   pub target : stop_unloaded stops c.target_stop ≡ false
-  pub queue : QueueIn stops c.destination_queue
+  pub queue : QueueIn stops c.destination_queue.items c.destination_queue.count
 
 pub car_in_stays : (l m a b : ℕ) → l ≤ m → a ≤ b → (c : Car) → CarIn l a c → CarIn m b c
 car_in_stays l m a b lines stops c h = record {
@@ -71,10 +71,10 @@ shifted_at q (suc (suc (suc (suc (suc (suc zero)))))) l = refl
 shifted_at q (suc (suc (suc (suc (suc (suc (suc k))))))) l = absurd (omega arith)
 
 module _ (lines stops : ℕ) (c : Car) (h : CarIn lines stops c) where
-  pop_in : (s : ℕ) → QueueIn stops (popped c s).stops (popped c s).count
+  pop_in : (s : ℕ) → QueueIn stops (popped c s).items (popped c s).count
   unfolding popped
   pop_in s =
-      both (λ (q : Queue). QueueIn stops q.stops q.count) (ltb 0 c.destination_queue.count && eqb (get_or c.destination_queue.items 0 0) s)
+      both (λ (q : Queue ℕ). QueueIn stops q.items q.count) (ltb 0 c.destination_queue.count && eqb (get_or c.destination_queue.items 0 0) s)
       (record { few = omega (arith, h.queue.few); loaded = λ k l. rw (shifted_at c.destination_queue.items k (omega (arith, h.queue.few))) (h.queue.loaded (suc k) (omega arith)) })
       h.queue
 
@@ -93,16 +93,16 @@ stop_known stops None f = refl
 stop_known stops (Some s) f = f s refl
 
 forward_in : (stops : ℕ) (l : Line) → line_broken stops l ≡ false → (positions : List Float) (circumference position : Float)
-    → stop_unloaded stops (loop_next_stop_forward positions circumference l.serves l.serves_count position) ≡ false
+    → stop_unloaded stops (loop_next_stop_forward positions circumference l.serves.stops position) ≡ false
 forward_in stops l h positions circumference position =
-    stop_known stops (loop_next_stop_forward positions circumference l.serves l.serves_count position)
-    (λ s e. let r = next_is_served positions circumference l.serves l.serves_count position s e in rw (← r.1.1) (listed stops l h r.0 (omega (arith, r.1.0))))
+    stop_known stops (loop_next_stop_forward positions circumference l.serves.stops position)
+    (λ s e. let r = next_is_served positions circumference l.serves.stops position s e in rw (← r.1.1) (listed stops l h r.0 (omega (arith, r.1.0))))
 
 next_by_in : (stops : ℕ) (kind : LineKind) (l : Line) → line_broken stops l ≡ false → (positions : List Float) (position : Float)
     → stop_unloaded stops (next_stop_by kind l positions position) ≡ false
 next_by_in stops Linear l h positions position = refl
 next_by_in stops (Loop circumference headway) l h positions position =
-    both (λ (s : Option ℕ). stop_unloaded stops s ≡ false) l.listed (forward_in stops l h positions circumference position) refl
+    both (λ (s : Option ℕ). stop_unloaded stops s ≡ false) l.serves.listed (forward_in stops l h positions circumference position) refl
 
 pub next_in : (stops : ℕ) (l : Line) → line_broken stops l ≡ false → (positions : List Float) (position : Float)
     → stop_unloaded stops (loop_next_stop_for_car l positions position) ≡ false
@@ -132,7 +132,7 @@ module _ (lines stops i : ℕ) (c : Car) (h : CarIn lines stops c) where
       k : Work
       k = process_door_commands c here traversing
 
-      few : k.count ≤ 8
+      few : k.queue.count ≤ 8
       few = few_stay c here traversing
 
       rests_in : (p : ElevatorPhase) (d : DoorState) → phase_unloaded stops p ≡ false → CarIn lines stops (rested c k p d)

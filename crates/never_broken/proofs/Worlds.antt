@@ -156,8 +156,8 @@ record Fewer (h k : Standing) : Type 0 where
 clear_matching_lem : (o : Option JustOpened) (h k : Standing) → Fewer h k → Fewer h (clear_matching o k)
 clear_matching_lem None h k p = p
 clear_matching_lem (Some o) h k p = record {
-  up = omega (arith, clear_one_lem k.up o.stop o.going_up, p.up);
-  down = omega (arith, clear_one_lem k.down o.stop o.going_down, p.down);
+  up = omega (arith, clear_one_lem k.up o.stop o.lamps.going_up, p.up);
+  down = omega (arith, clear_one_lem k.down o.stop o.lamps.going_down, p.down);
 }
 
 clear_to_lem : (opened : List (Option JustOpened)) (h : Standing) (n : ℕ) → Fewer h (clear_to opened h n)
