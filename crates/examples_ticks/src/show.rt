@@ -105,8 +105,8 @@ impl fmt::Display for Door {
 fn marks(car: &Car) -> u8
     ensures { result < 16 }
 {
-    8 * u8::from(car.going_up)
-        + 4 * u8::from(car.going_down)
+    8 * u8::from(car.lamps.going_up)
+        + 4 * u8::from(car.lamps.going_down)
         + 2 * u8::from(car.going_forward)
         + u8::from(car.repositioning)
 }
@@ -118,7 +118,12 @@ struct Destinations<'a>(&'a Car);
 impl fmt::Display for Destinations<'_> {
     fn fmt<W: fmt::Write>(&self, f: &mut fmt::Formatter<W>) -> fmt::Result {
         let car = self.0;
-        for stop in car.destination_queue.iter().take(car.destination_queue.count) {
+        for stop in car
+            .destination_queue
+            .items
+            .iter()
+            .take(car.destination_queue.count)
+        {
             write!(f, "{}", Stop(*stop))?;
         }
         Ok(())
@@ -132,7 +137,8 @@ struct Commands<'a>(&'a Car);
 impl fmt::Display for Commands<'_> {
     fn fmt<W: fmt::Write>(&self, f: &mut fmt::Formatter<W>) -> fmt::Result {
         let car = self.0;
-        for command in car.door_command_queue.iter().take(car.door_command_queue.count) {
+        let queue = car.door_command_queue;
+        for command in queue.items.iter().take(queue.count) {
             match *command {
                 DoorCommand::Open => write!(f, "00000")?,
                 DoorCommand::Close => write!(f, "10000")?,

@@ -85,7 +85,7 @@ arrived position = moved (record { position = position; velocity = zero; arrived
 
 -- stop 0 at 0, 1 at 4 and 2 at 7 on a circle of 10: the next stop from 4 of a line that serves these
 abbrev next_from_four : List ℕ → Answer
-next_from_four serves = next (loop_next_stop_forward (zero ∷ four ∷ seven ∷ []) ten serves (length serves) four)
+next_from_four serves = next (loop_next_stop_forward (zero ∷ four ∷ seven ∷ []) ten (record { items = serves; count = length serves }) four)
 
 abbrev pub examples : List Example
 examples =

@@ -10,7 +10,7 @@ use borrow.Author.Tests.{le-ltb, ne_eqb, ltb-false, eqb-false}
 use Rattle.world.specs.declared.refusal.Refusal.{Refusal}
 use Rattle.world.specs.declared.refusal.Refusal.TheVariants.{CutShort}
 use Rattle.fields.specs.declared.head.Head.{Head}
-use Rattle.tape_records.specs.declared.Decoded.{Decoded}
+use Rattle.tape_records.specs.declared.Read.{Read}
 use Rattle.std.specs.Prelude.{Result, Ok, Err}
 use Rattle.tape_records.specs.Answers.{Deed, answer}
 use Rattle.tape.specs.Tape.{Kind, kind_in, kinds, record_of, decoded}
@@ -21,7 +21,7 @@ use Rattle.tape_loads.proofs.Serves.{count_small}
 use Rattle.whole_tape.specs.WholeTape.{Ignored, Longest}
 
 -- two tables that answer alike, where the second one's answer is one of which `g` holds
-module _ (g : Result Decoded Refusal → Type 0) where
+module _ (g : Result Read Refusal → Type 0) where
   infixr 5 ◌and◌
   data Alike : List Kind → List Kind → Type 0 where
     end : Alike [] []
@@ -129,11 +129,11 @@ module _ (ws vs : List ℕ) where
       go false e = same (count_small h.v e)
 
   -- not cut short
-  abbrev Uncut : Result Decoded Refusal → Type 0
+  abbrev Uncut : Result Read Refusal → Type 0
   Uncut d = d ≡ Err CutShort → ⊥
 
   -- a record that is cut short where it has fewer than so many words
-  by_length : (k : ℕ) (a b : Result Decoded Refusal) → (ltb (length ws) k ≡ true → b ≡ Err CutShort) → (k ≤ length ws → a ≡ b) → Uncut b → a ≡ b
+  by_length : (k : ℕ) (a b : Result Read Refusal) → (ltb (length ws) k ≡ true → b ≡ Err CutShort) → (k ≤ length ws → a ≡ b) → Uncut b → a ≡ b
   by_length k a b cut same u = go (ltb (length ws) k) refl
     where
       go : (t : Bool) → ltb (length ws) k ≡ t → a ≡ b
