@@ -37,12 +37,7 @@ fn needing_rider(rider: &Rider, lamps: Lamps, stops: &[f64; 64], number: u8, sto
 
 // What the riders aboard need.
 #[tactic(auto, using(crate::proofs::Needs::no_rider_yet))]
-fn riders_need(
-    riders: &Table<Rider, 128>,
-    stops: &[f64; 64],
-    number: u8,
-    stop: f64,
-) -> Lamps
+fn riders_need(riders: &Table<Rider, 128>, stops: &[f64; 64], number: u8, stop: f64) -> Lamps
     ensures { result ≡ Arrival.riders_to riders.now.items stops.now number stop (min riders.now.count 128) }
 {
     let count = riders.count.min(128);

@@ -189,12 +189,7 @@ pub fn landing(
 }
 
 // The leader of a car, by its line's kind.
-pub fn leader_of(
-    kind: LineKind,
-    cars: &Table<Car, 16>,
-    i: usize,
-    car: Car,
-) -> Option<f64>
+pub fn leader_of(kind: LineKind, cars: &Table<Car, 16>, i: usize, car: Car) -> Option<f64>
     ensures { result ≡ Landing.leader_of kind cars.now i car }
 {
     match kind {

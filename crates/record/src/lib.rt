@@ -114,7 +114,17 @@ pub fn record(world: World, words: &[u32], log: &mut [u32]) -> Recorded
                 lamps = work_of(trip, &w.riders, row, &w.stops.items, number);
             }
             let told = tell(
-                log, to, number, trip, kind, car, result, lamps, &sort, &w.stops.items, stop_count,
+                log,
+                to,
+                number,
+                trip,
+                kind,
+                car,
+                result,
+                lamps,
+                &sort,
+                &w.stops.items,
+                stop_count,
             );
             w.cars.items[i].motion.position = result.position;
             w.cars.items[i].motion.velocity = result.velocity;

@@ -8,8 +8,8 @@ use call_sets::pressed;
 use changes::{Changed, accepted, ordered, refused, row_of};
 use door::DoorCommand;
 use sound_rows::unloaded;
-use world::{Car, World};
 use world::refusal::Refusal;
+use world::{Car, World};
 
 // Kind 8.
 #[tactic(auto, unfolding(crate::specs::Requests::queue_command, changes::specs::Parts::ordered, changes::specs::Parts::row_of))]

@@ -67,7 +67,11 @@ pub fn rest_broken(world: World) -> bool
     lines_broken(stops, &world.lines.items[..world.lines.count])
         | calls_unloaded(stops, world.up_calls)
         | calls_unloaded(stops, world.down_calls)
-        | riders_broken(stops, world.cars.count, &world.riders.items[..world.riders.count])
+        | riders_broken(
+            stops,
+            world.cars.count,
+            &world.riders.items[..world.riders.count],
+        )
 }
 
 // Refusal 0.
