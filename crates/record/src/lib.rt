@@ -11,7 +11,7 @@ use doors_system::{door_turn, has_turn};
 use hall_calls::clear_hall_calls;
 use landing::{landing, leader_of};
 use log_words::Event;
-use log_writes::emit;
+use log_writes::Log;
 use movement_system::turn::tell;
 use moves::{come, distance_by};
 use record_kinds::{change, take_tick};
@@ -94,7 +94,8 @@ pub fn record(world: World, words: &[u32], log: &mut [u32]) -> Recorded
     // 3. the tick's word; movement.rs, run: car by car, each on positions already updated in this tick. A car at rest is left alone.
     let stop_count = w.stop_count;
     let sort = sorted_stops(&w.stops, stop_count);
-    let mut to = emit(log, 0, Event::TickMade { tick: w.ticks });
+    let mut log = Log::new(log);
+    log.emit(Event::TickMade { tick: w.ticks });
     for i in 0..cars {
         let car = w.cars[i];
         let trip = trip_of(car);
@@ -119,14 +120,13 @@ pub fn record(world: World, words: &[u32], log: &mut [u32]) -> Recorded
                 lamps = work_of(trip, riders, w.rider_count, row, &w.stops, number);
             }
             let told = tell(
-                log, to, number, trip, kind, car, result, lamps, &sort, &w.stops, stop_count,
+                &mut log, number, trip, kind, car, result, lamps, &sort, &w.stops, stop_count,
             );
             w.cars[i].motion.position = result.position;
             w.cars[i].motion.velocity = result.velocity;
-            w.cars[i].move_count = car.move_count.wrapping_add(told.count);
-            w.total_moves = w.total_moves.wrapping_add(told.count);
+            w.cars[i].move_count = car.move_count.wrapping_add(told);
+            w.total_moves = w.total_moves.wrapping_add(told);
             w.reposition_distance = distance_by(trip, kind, w.reposition_distance, car, result);
-            to = told.at;
             if result.arrived {
                 let row = w.cars[i];
                 let arrived = come(row, trip, lamps, w.ticks);
@@ -148,22 +148,21 @@ pub fn record(world: World, words: &[u32], log: &mut [u32]) -> Recorded
                 traversing = has_rider_traversing(riders, w.rider_count, number);
             }
             let stop_count = w.stop_count;
-            let turned = door_turn(log, to, number, car, line, traversing, &w.stops, stop_count);
+            let turned = door_turn(&mut log, number, car, line, traversing, &w.stops, stop_count);
             let next = turned.car;
             let opened = turned.opened;
             w.cars[i] = next;
             just_opened[i] = opened;
-            to = turned.at;
         }
     }
-    let calls = clear_hall_calls(log, to, just_opened, cars, w.up_calls, w.down_calls);
+    let calls = clear_hall_calls(&mut log, just_opened, cars, w.up_calls, w.down_calls);
     w.up_calls = calls.up;
     w.down_calls = calls.down;
     w.ticks = w.ticks.wrapping_add(1);
     Recorded {
         answer: Ok(Accepted {
             used: words_used,
-            written: calls.at,
+            written: log.at,
         }),
         world: w,
     }

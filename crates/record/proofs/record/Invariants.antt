@@ -2,7 +2,6 @@
 use Rattle.std.proofs.Common.{◌≡◌, ℕ, ◌+◌, ◌-◌, ◌<◌, ◌≤◌, min, false, ◌||◌, List, sym, refl, ap, ◌∙◌, inl, inr, ⊎_elim, add-one, arith, rules}
 use mathlib.Core.Bool.{or_assoc, or-false}
 use lib.Ieee.{Float}
-use Rattle.log_writes.proofs.Writing.{wrote_none, also, wrote_length}
 use Rattle.sound_rows.specs.Rows.{any_to}
 use Rattle.sound.specs.Sound.{broken}
 use Rattle.sound.specs.Parts.{cars_broken}
@@ -28,8 +27,8 @@ invariant-loop-i l = (l.i ≤ l.cars) × (l.broken ≡ (l.initial.broken || cars
 
 -- the cars' moves
 abbrev pub invariant-loop-i-2 : goal.invariant-loop-i-2
-invariant-loop-i-2 l = (l.i ≤ l.cars) × Moves (move_of l.dt) l.initial.w l.initial.log l.initial.to l.i l.w l.log l.to × (l.cars ≤ 16)
+invariant-loop-i-2 l = (l.i ≤ l.cars) × Moves (move_of l.dt) l.initial.w l.initial.log l.i l.w l.log × (l.cars ≤ 16)
 
 -- the doors, from where the moves ended
 abbrev pub invariant-loop-i-3 : goal.invariant-loop-i-3
-invariant-loop-i-3 l = (l.i ≤ l.cars) × Runs door_of l.initial.w l.initial.log l.initial.to l.i l.w l.just_opened l.log l.to × (l.cars ≤ 16)
+invariant-loop-i-3 l = (l.i ≤ l.cars) × Runs door_of l.initial.w l.initial.log l.i l.w l.just_opened l.log × (l.cars ≤ 16)
