@@ -148,7 +148,9 @@ pub fn record(world: World, words: &[u32], log: &mut [u32]) -> Recorded
                 traversing = has_rider_traversing(riders, w.rider_count, number);
             }
             let stop_count = w.stop_count;
-            let turned = door_turn(&mut log, number, car, line, traversing, &w.stops, stop_count);
+            let turned = door_turn(
+                &mut log, number, car, line, traversing, &w.stops, stop_count,
+            );
             let next = turned.car;
             let opened = turned.opened;
             w.cars[i] = next;

@@ -158,6 +158,7 @@ returns c =
     let d : min c.min-cars.result 16 ≡ min s.w.car_count 16 = omega (arith, n, cars_kept k) in
     let r = ended (runs_at t.invariant.1 f) (cleared t.just_opened (calls_kept t.invariant.1) d c.clear_hall_calls-calls.ensures) in
     let x = doored_after c.in-Tick.dt w k r.0 r.1 in
+    let all = told_also c.emit.ensures x.1 in
     is_whole w _ _ (whole (goal.at.returns c).Else-broken) c.decode.ensures
     (is_made w _ c.in-Ok.is (tick_taken_lem w _ _ c.in-Tick.is (sym c.take_tick-taken.ensures ∙ c.in_default.is) refl
-    (ap ticked x.0) (told_also c.emit.ensures x.1).wrote))
+    (ap ticked x.0) (search (rules, all.wrote, all.slice))))
