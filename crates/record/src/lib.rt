@@ -119,13 +119,13 @@ pub fn record(world: World, words: &[u32], log: &mut [u32]) -> Recorded
                 let riders = w.riders;
                 lamps = work_of(trip, riders, w.rider_count, row, &w.stops, number);
             }
-            let told = tell(
+            let moves = tell(
                 &mut log, number, trip, kind, car, result, lamps, &sort, &w.stops, stop_count,
             );
             w.cars[i].motion.position = result.position;
             w.cars[i].motion.velocity = result.velocity;
-            w.cars[i].move_count = car.move_count.wrapping_add(told);
-            w.total_moves = w.total_moves.wrapping_add(told);
+            w.cars[i].move_count = car.move_count.wrapping_add(moves);
+            w.total_moves = w.total_moves.wrapping_add(moves);
             w.reposition_distance = distance_by(trip, kind, w.reposition_distance, car, result);
             if result.arrived {
                 let row = w.cars[i];

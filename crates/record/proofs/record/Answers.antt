@@ -93,7 +93,7 @@ loop-i-2-preserved c =
     elim c.if-is_trip.branch [
       | then-is_trip+then-result u ↦ (
         so_far,
-        comes_in (c.in-Tick.dt) _ s.w c.if-is_trip.w _ s.log _ c.if-is_trip.log s.i n trip.result u.if-line-lt8.kind u.if-is_loop.leader u.landing-result.result u.if-asks_work.lamps u.tell-told.result _ _ u.distance_by.result u.come-arrived.result s.invariant.1 refl trip.ensures (rw c.is_trip.ensures at u.if-is_trip.true)
+        comes_in (c.in-Tick.dt) _ s.w c.if-is_trip.w _ s.log _ c.if-is_trip.log s.i n trip.result u.if-line-lt8.kind u.if-is_loop.leader u.landing-result.result u.if-asks_work.lamps u.tell-moves.result _ _ u.distance_by.result u.come-arrived.result s.invariant.1 refl trip.ensures (rw c.is_trip.ensures at u.if-is_trip.true)
             (elim u.if-line-lt8.branch [ then-line-lt8 z ↦ inl (z.if-line-lt8.true, z.kind-is) | else-line-lt8 z ↦ inr (z.if-line-lt8.false, z.kind-is) ])
             (elim u.if-is_loop.branch [ then-is_loop z ↦ inr (z.leader-is ∙ z.leader_of-leader.ensures) | else-is_loop z ↦ inl (rw u.is_loop.ensures at z.if-is_loop.false) ])
             u.landing-result.ensures
@@ -101,13 +101,13 @@ loop-i-2-preserved c =
               | then-asks_work z ↦ inr (rw u.asks_work.ensures at z.if-asks_work.true, z.lamps-is ∙ z.work_of-lamps.ensures)
               | else-asks_work z ↦ inl (rw u.asks_work.ensures at z.if-asks_work.false, z.lamps-is ∙ u.lamps_of-lamps.ensures)
             ])
-            (u.tell-told.ensures order) refl refl u.distance_by.ensures
+            (u.tell-moves.ensures order) refl refl u.distance_by.ensures
             u.if-result.true u.come-arrived.ensures u.w-is u.log-is,
         s.invariant.2,
       )
       | then-is_trip+else-result u ↦ (
         so_far,
-        goes_on_lem (c.in-Tick.dt) _ s.w c.if-is_trip.w _ s.log _ c.if-is_trip.log s.i n trip.result u.if-line-lt8.kind u.if-is_loop.leader u.landing-result.result u.if-asks_work.lamps u.tell-told.result _ _ u.distance_by.result s.invariant.1 refl trip.ensures (rw c.is_trip.ensures at u.if-is_trip.true)
+        goes_on_lem (c.in-Tick.dt) _ s.w c.if-is_trip.w _ s.log _ c.if-is_trip.log s.i n trip.result u.if-line-lt8.kind u.if-is_loop.leader u.landing-result.result u.if-asks_work.lamps u.tell-moves.result _ _ u.distance_by.result s.invariant.1 refl trip.ensures (rw c.is_trip.ensures at u.if-is_trip.true)
             (elim u.if-line-lt8.branch [ then-line-lt8 z ↦ inl (z.if-line-lt8.true, z.kind-is) | else-line-lt8 z ↦ inr (z.if-line-lt8.false, z.kind-is) ])
             (elim u.if-is_loop.branch [ then-is_loop z ↦ inr (z.leader-is ∙ z.leader_of-leader.ensures) | else-is_loop z ↦ inl (rw u.is_loop.ensures at z.if-is_loop.false) ])
             u.landing-result.ensures
@@ -115,7 +115,7 @@ loop-i-2-preserved c =
               | then-asks_work z ↦ inr (rw u.asks_work.ensures at z.if-asks_work.true, z.lamps-is ∙ z.work_of-lamps.ensures)
               | else-asks_work z ↦ inl (rw u.asks_work.ensures at z.if-asks_work.false, z.lamps-is ∙ u.lamps_of-lamps.ensures)
             ])
-            (u.tell-told.ensures order) refl refl u.distance_by.ensures
+            (u.tell-moves.ensures order) refl refl u.distance_by.ensures
             u.if-result.false u.w-is u.log-is,
         s.invariant.2,
       )
