@@ -1,5 +1,5 @@
 -- `record::record` meets its contract: refusal 0 by the first loop, then what was read, then a tick by the two loops. Assumes nothing.
-use Rattle.std.proofs.Common.{◌≡◌, ℕ, ◌+◌, ◌-◌, ◌<◌, ◌≤◌, min, Bool, false, ◌||◌, List, sym, refl, ap, ◌∙◌, inl, inr, add-one, arith, rules}
+use Rattle.std.proofs.Common.{◌≡◌, ℕ, ◌+◌, ◌≤◌, min, Bool, false, ◌||◌, List, sym, refl, ap, ◌∙◌, inl, inr, add-one, arith, rules}
 use mathlib.Core.Bool.{or_assoc, or-false}
 use lib.Ieee.{Float}
 use Rattle.log_writes.proofs.Telling.{told_none, told_also}
@@ -15,9 +15,7 @@ use Rattle.std.specs.declared.option.Option.{Option}
 use Rattle.steps.specs.declared.JustOpened.{JustOpened}
 use Rattle.laws.specs.Numbers.{plus}
 use Rattle.sorted.specs.Sorted.{sorted_table}
-use Rattle.doors_system.specs.Doors.{door_of}
 use Rattle.doors_system.proofs.Running.{Runs, same, more, turn_on_lem, door_of_lem, passed, ended}
-use Rattle.movement_system.specs.Movement.{move_of}
 use Rattle.movement_system.proofs.Moving.{Moves, stops_kept, cars_kept, calls_kept, cleared, doored_after, comes_in, goes_on_lem, stays}
 use Rattle.tick.specs.Tick.{ticked, tick_world, tick_words}
 use Rattle.record.proofs.Giving.{is_broken, is_whole, is_refused, is_made, is_changed, tick_refused, tick_taken_lem}
