@@ -11,7 +11,8 @@ use Rattle.world.specs.declared.ElevatorPhase.TheVariants.{Idle, MovingToStop, R
 use Rattle.std.specs.declared.option.Option.{Option}
 use Rattle.std.specs.declared.option.Option.TheVariants.{None, Some}
 use Rattle.log_words.specs.Words.{word_of}
-use Rattle.log_writes.specs.Log.{Wrote}
+use Rattle.log_writes.specs.Told.{Told}
+use Rattle.log_writes.specs.declared.Log.{Log}
 use Rattle.log_words.specs.declared.Event.TheVariants.{DoorOpened, DoorClosed, ElevatorDeparted}
 use Rattle.steps.specs.Steps.{is_inspection, both_lit, unlit, update_indicators, not_opened}
 use Rattle.world.specs.With.{with_door}
@@ -87,10 +88,10 @@ abbrev pub door_by : ElevatorPhase → DoorState → ℕ → Car → Work → Op
 door_by phase door i c k next =
     cond (stays phase door c) (rests c k phase door) (finish_by (tick door).transition phase (tick door).door i c k next)
 
--- a turn made by code: the car, what it wrote, a door just opened
-pub record Turns (t : Turn) (l : List ℕ) (at : ℕ) (l' : List ℕ) (r : Turned) : Type 0 where
+-- a turn made by code: the car, what it told the log, a door just opened
+pub record Turns (t : Turn) (l : Log) (l' : Log) (r : Turned) : Type 0 where
   pub car : r.car ≡ t.car
-  pub wrote : Wrote l at t.words l' r.at
+  pub told : Told l t.words l'
   pub opened : r.opened ≡ t.opened
 
 -- a turn after words of its own

@@ -17,8 +17,9 @@ use Rattle.world.specs.declared.Car.{Car}
 use Rattle.world.specs.declared.Line.{Line}
 use Rattle.std.specs.declared.option.Option.{Option}
 use Rattle.next_stop.specs.NextStop.{loop_next_stop_for_car}
-use Rattle.log_writes.specs.Log.{Wrote}
-use Rattle.log_writes.proofs.Writing.{wrote_none, also}
+use Rattle.log_writes.specs.Told.{Told}
+use Rattle.log_writes.specs.declared.Log.{Log}
+use Rattle.log_writes.proofs.Telling.{told_none, told_also}
 use Rattle.steps.specs.Steps.{Step, line_of, not_opened, step_of, stepped, run_to, run_cars}
 use Rattle.steps.proofs.Cars.{by_turns, stepped_same}
 use Rattle.world.specs.With.{with_door}
@@ -34,58 +35,57 @@ use Rattle.door_ticks.specs.declared.Turned.{Turned}
 use Rattle.hall_calls.specs.declared.Calls.{Calls}
 use Rattle.door_commands.proofs.Working.{no_work, no_words}
 
--- the first i cars' turns made by code: the world, the doors just opened, and what was written
-pub record Runs (turn : World → ℕ → Step) (world : World) (l : List ℕ) (at i : ℕ) (w : World) (opened : List (Option JustOpened)) (l' : List ℕ) (to : ℕ) : Type 0 where
+-- the first i cars' turns made by code: the world, the doors just opened, and what the log was told
+pub record Runs (turn : World → ℕ → Step) (world : World) (l : Log) (i : ℕ) (w : World) (opened : List (Option JustOpened)) (l' : Log) : Type 0 where
   pub left : w ≡ (run_to turn world i).world
   pub opens : opened ≡ (run_to turn world i).opened
-  pub wrote : Wrote l at (run_to turn world i).words l' to
+  pub told : Told l (run_to turn world i).words l'
 
 -- the same under other names
-pub same : {turn : World → ℕ → Step} {world w v : World} {l l' m : List ℕ} {at i to b : ℕ} {opened os : List (Option JustOpened)} → Runs turn world l at i w opened l' to
+pub same : {turn : World → ℕ → Step} {world w v : World} {l l' m : Log} {i : ℕ} {opened os : List (Option JustOpened)} → Runs turn world l i w opened l'
     → m ≡ l'
     → v ≡ w
     → os ≡ opened
-    → b ≡ to
-    → Runs turn world l at i v os m b
-same k e f g h = record { left = f ∙ k.left; opens = g ∙ k.opens; wrote = rw (e, h) k.wrote }
+    → Runs turn world l i v os m
+same k e f g = record { left = f ∙ k.left; opens = g ∙ k.opens; told = rw e k.told }
 
 -- a turn more
-pub more : {turn : World → ℕ → Step} {world w : World} {l l' l'' : List ℕ} {at i to b : ℕ} {opened : List (Option JustOpened)} (s : Step)
-    → Runs turn world l at i w opened l' to
+pub more : {turn : World → ℕ → Step} {world w : World} {l l' l'' : Log} {i : ℕ} {opened : List (Option JustOpened)} (s : Step)
+    → Runs turn world l i w opened l'
     → turn w i ≡ s
-    → Wrote l' to s.words l'' b
-    → Runs turn world l at (i + 1) (stepped w i s) (set opened i s.opened) l'' b
+    → Told l' s.words l''
+    → Runs turn world l (i + 1) (stepped w i s) (set opened i s.opened) l''
 unfolding run_to
-more s k e h = record { left = rw (add-one, ← k.left, e); opens = rw (add-one, ← k.left, e, ← k.opens); wrote = rw (add-one, ← k.left, e) (also k.wrote h) }
+more s k e h = record { left = rw (add-one, ← k.left, e); opens = rw (add-one, ← k.left, e, ← k.opens); told = rw (add-one, ← k.left, e) (told_also k.told h) }
 
 -- a turn that is skipped, and one that is not
-pub skipped : (b : Bool) (t : Turn) {u : Turn} {l l' : List ℕ} {at : ℕ} {r : Turned} → not b ≡ true → Turns u l at l' r → Turns (cond b t u) l at l' r
+pub skipped : (b : Bool) (t : Turn) {u : Turn} {l l' : Log} {r : Turned} → not b ≡ true → Turns u l l' r → Turns (cond b t u) l l' r
 skipped true t e h = absurd (true≢false (sym e))
 skipped false t e h = h
 
-pub unskipped : (b : Bool) {t : Turn} (u : Turn) {l l' : List ℕ} {at : ℕ} {r : Turned} → not b ≡ false → Turns t l at l' r → Turns (cond b t u) l at l' r
+pub unskipped : (b : Bool) {t : Turn} (u : Turn) {l l' : Log} {r : Turned} → not b ≡ false → Turns t l l' r → Turns (cond b t u) l l' r
 unskipped true u e h = h
 unskipped false u e h = absurd (true≢false e)
 
-module _ {l l' : List ℕ} {at : ℕ} {r : Turned} where
+module _ {l l' : Log} {r : Turned} where
   -- who stands on the threshold matters only to a command
-  asked : (i : ℕ) (c : Car) (a traversing u : Bool) (next : Option ℕ) → (c.door_command_queue.count ≡ 0) ⊎ (traversing ≡ u) → Turns (door_turn i c a traversing next) l at l' r
-      → Turns (door_turn i c a u next) l at l' r
+  asked : (i : ℕ) (c : Car) (a traversing u : Bool) (next : Option ℕ) → (c.door_command_queue.count ≡ 0) ⊎ (traversing ≡ u) → Turns (door_turn i c a traversing next) l l' r
+      → Turns (door_turn i c a u next) l l' r
   asked i c a traversing u next k h =
       ⊎_elim (λ e. rw (no_work c a u e, no_words c a u i e) (rw (no_work c a traversing e, no_words c a traversing i e) at h)) (λ e. rw (← e) h) k
 
   -- by the line that was read, and by who was found on the threshold, if anybody was looked for
   pub turn_on_lem : (w : World) (i : ℕ) (c : Car) (line : Line) (traversing : Bool) → line ≡ line_of w.lines.items c.line
       → (c.door_command_queue.count ≡ 0) ⊎ (traversing ≡ has_rider_traversing w.riders i)
-      → Turns (door_turn i c (at_stop line w.stops c.motion.position) traversing (loop_next_stop_for_car line w.stops.items c.motion.position)) l at l' r
-      → Turns (turn_on w i c (line_of w.lines.items c.line)) l at l' r
+      → Turns (door_turn i c (at_stop line w.stops c.motion.position) traversing (loop_next_stop_for_car line w.stops.items c.motion.position)) l l' r
+      → Turns (turn_on w i c (line_of w.lines.items c.line)) l l' r
   turn_on_lem w i c line traversing f k h = asked i c _ traversing _ _ k (rw f at h)
 
   -- it is the car's turn
-  by : (w : World) (t : Turn) → Turns t l at l' r → step_by w t ≡ step_of w r.car t.words r.opened
+  by : (w : World) (t : Turn) → Turns t l l' r → step_by w t ≡ step_of w r.car t.words r.opened
   by w t h = rw (h.car, h.opened)
 
-  pub door_of_lem : (w : World) (i : ℕ) → Turns (turn_on w i (car_at w.cars.items i) (line_of w.lines.items (car_at w.cars.items i).line)) l at l' r
+  pub door_of_lem : (w : World) (i : ℕ) → Turns (turn_on w i (car_at w.cars.items i) (line_of w.lines.items (car_at w.cars.items i).line)) l l' r
       → door_of w i ≡ step_of w r.car (turn_on w i (car_at w.cars.items i) (line_of w.lines.items (car_at w.cars.items i).line)).words r.opened
   unfolding door_of
   door_of_lem w i h = by w _ h
@@ -131,16 +131,16 @@ unopened turn w j b =
 opened_same : (os : List (Option JustOpened)) (i : ℕ) → get_or os i not_opened ≡ not_opened → os ≡ set os i not_opened
 opened_same os i e = sym (set-get_or os i not_opened) ∙ ap (set os i) e
 
-pub passed : {world w : World} {l l' : List ℕ} {at i to : ℕ} {opened : List (Option JustOpened)} → Runs door_of world l at i w opened l' to → i < 16
+pub passed : {world w : World} {l l' : Log} {i : ℕ} {opened : List (Option JustOpened)} → Runs door_of world l i w opened l' → i < 16
     → has_turn (car_at w.cars.items i) ≡ false
-    → Runs door_of world l at (i + 1) w opened l' to
+    → Runs door_of world l (i + 1) w opened l'
 passed {world = world} {w = w} {i = i} {opened = opened} k b h =
-    same (more (step_of w (car_at w.cars.items i) [] not_opened) k (still_of w i h) wrote_none) refl (stepped_same w i)
-    (opened_same opened i (ap (λ (os : List (Option JustOpened)). get_or os i not_opened) k.opens ∙ unopened door_of world i b i (omega arith))) refl
+    same (more (step_of w (car_at w.cars.items i) [] not_opened) k (still_of w i h) told_none) refl (stepped_same w i)
+    (opened_same opened i (ap (λ (os : List (Option JustOpened)). get_or os i not_opened) k.opens ∙ unopened door_of world i b i (omega arith)))
 
 -- all cars' turns, then the hall calls
-pub ended : {world w : World} {l l' l'' : List ℕ} {at to : ℕ} {opened : List (Option JustOpened)} {r : Calls} → Runs door_of world l at (cars_of world) w opened l' to
-    → Clears (clear_to opened (standing world) (cars_of world)) (clear_words_to opened (standing world) (cars_of world)) l' to l'' r
-    → (with_people w w.riders r.up r.down ≡ doors_world world) × Wrote l at (doors_words world) l'' r.at
+pub ended : {world w : World} {l l' l'' : Log} {opened : List (Option JustOpened)} {r : Calls} → Runs door_of world l (cars_of world) w opened l'
+    → Clears (clear_to opened (standing world) (cars_of world)) (clear_words_to opened (standing world) (cars_of world)) l' l'' r
+    → (with_people w w.riders r.up r.down ≡ doors_world world) × Told l (doors_words world) l''
 unfolding doors_world doors_words doored run_cars
-ended k h = (rw (← k.left, ← k.opens, ← h.calls), rw (← k.opens) (also k.wrote h.wrote))
+ended k h = (rw (← k.left, ← k.opens, ← h.calls), rw (← k.opens) (told_also k.told h.told))

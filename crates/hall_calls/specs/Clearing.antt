@@ -4,7 +4,8 @@ use Rattle.call_sets.specs.Calls.{called, cleared}
 use Rattle.std.specs.declared.option.Option.{Option}
 use Rattle.std.specs.declared.option.Option.TheVariants.{None, Some}
 use Rattle.log_words.specs.Words.{word_of}
-use Rattle.log_writes.specs.Log.{Wrote}
+use Rattle.log_writes.specs.Told.{Told}
+use Rattle.log_writes.specs.declared.Log.{Log}
 use Rattle.log_words.specs.declared.Event.TheVariants.{HallCallCleared}
 use Rattle.steps.specs.Steps.{not_opened}
 use Rattle.steps.specs.declared.JustOpened.{JustOpened}
@@ -53,7 +54,7 @@ module _ (opened : List (Option JustOpened)) (h : Standing) where
   clear_words_to zero = []
   clear_words_to (suc n) = clear_words_to n ++ clear_matching_words (opened_of n) n (clear_to n)
 
--- calls cleared by code: those that stand, and what it wrote
-pub record Clears (h : Standing) (words : List ℕ) (l : List ℕ) (at : ℕ) (l' : List ℕ) (r : Calls) : Type 0 where
+-- calls cleared by code: those that stand, and what it told the log
+pub record Clears (h : Standing) (words : List ℕ) (l : Log) (l' : Log) (r : Calls) : Type 0 where
   pub calls : both_ways r ≡ h
-  pub wrote : Wrote l at words l' r.at
+  pub told : Told l words l'

@@ -18,8 +18,9 @@ use Rattle.world.specs.declared.LineKind.{LineKind}
 use Rattle.world.specs.declared.LineKind.TheVariants.{Linear, Loop}
 use Rattle.std.specs.declared.option.Option.{Option}
 use Rattle.std.specs.declared.option.Option.TheVariants.{None, Some}
-use Rattle.log_writes.specs.Log.{Wrote}
-use Rattle.log_writes.proofs.Writing.{also, wrote_none}
+use Rattle.log_writes.specs.Told.{Told}
+use Rattle.log_writes.specs.declared.Log.{Log}
+use Rattle.log_writes.proofs.Telling.{told_also, told_none}
 use Rattle.steps.specs.Steps.{Step, line_of, step_of, stepped, not_opened, run_to, run_cars}
 use Rattle.world.specs.With.{placed}
 use Rattle.laws.specs.Numbers.{plus}
@@ -38,7 +39,6 @@ use Rattle.trips.specs.declared.Trip.TheVariants.{Rests, Drives, GoesTo, Reposit
 use Rattle.movement_system.specs.Movement.{passes, arrives, move_by, move_of, moved}
 use Rattle.movement_system.specs.Parts.{words_by, moves_by, Tells}
 use Rattle.moves.specs.Moves.{comes, come, distance_by}
-use Rattle.movement_system.specs.declared.Emitted.{Emitted}
 
 -- ---- what is read in a turn
 
@@ -137,57 +137,57 @@ after w cars total distance = record {
 
 -- ---- the turns so far
 
-pub record Moves (turn : World → ℕ → Step) (world : World) (l : List ℕ) (at i : ℕ) (w : World) (l' : List ℕ) (to : ℕ) : Type 0 where
+pub record Moves (turn : World → ℕ → Step) (world : World) (l : Log) (i : ℕ) (w : World) (l' : Log) : Type 0 where
   pub left : w ≡ (run_to turn world i).world
-  pub wrote : Wrote l at (run_to turn world i).words l' to
+  pub told : Told l (run_to turn world i).words l'
 
 -- and one more
-pub more : {turn : World → ℕ → Step} {world w w' : World} {l l' l'' : List ℕ} {at i to to' : ℕ} {s : Step} → Moves turn world l at i w l' to → turn w i ≡ s
-    → w' ≡ stepped w i s → Wrote l' to s.words l'' to' → Moves turn world l at (i + 1) w' l'' to'
+pub more : {turn : World → ℕ → Step} {world w w' : World} {l l' l'' : Log} {i : ℕ} {s : Step} → Moves turn world l i w l' → turn w i ≡ s
+    → w' ≡ stepped w i s → Told l' s.words l'' → Moves turn world l (i + 1) w' l''
 unfolding run_to
-more k e f h = record { left = f ∙ rw (add-one, ← k.left, ← e); wrote = rw (add-one, ← k.left) (also k.wrote (rw (← e) at h)) }
+more k e f h = record { left = f ∙ rw (add-one, ← k.left, ← e); told = rw (add-one, ← k.left) (told_also k.told (rw (← e) at h)) }
 
-pub stops_kept : {turn : World → ℕ → Step} {world w : World} {l l' : List ℕ} {at i to : ℕ} → Moves turn world l at i w l' to → w.stops ≡ world.stops
-stops_kept {turn} {world} {w} {l} {l'} {at} {i} k = ap (λ (z : World). z.stops) k.left ∙ kept turn world (λ (z : World). z.stops) (λ v j s. refl) i
+pub stops_kept : {turn : World → ℕ → Step} {world w : World} {l l' : Log} {i : ℕ} → Moves turn world l i w l' → w.stops ≡ world.stops
+stops_kept {turn} {world} {w} {l} {l'} {i} k = ap (λ (z : World). z.stops) k.left ∙ kept turn world (λ (z : World). z.stops) (λ v j s. refl) i
 
-pub cars_kept : {turn : World → ℕ → Step} {world w : World} {l l' : List ℕ} {at i to : ℕ} → Moves turn world l at i w l' to
+pub cars_kept : {turn : World → ℕ → Step} {world w : World} {l l' : Log} {i : ℕ} → Moves turn world l i w l'
     → w.cars.count ≡ world.cars.count
-cars_kept {turn} {world} {w} {l} {l'} {at} {i} k = ap (λ (z : World). z.cars.count) k.left ∙ kept turn world (λ (z : World). z.cars.count) (λ v j s. refl) i
+cars_kept {turn} {world} {w} {l} {l'} {i} k = ap (λ (z : World). z.cars.count) k.left ∙ kept turn world (λ (z : World). z.cars.count) (λ v j s. refl) i
 
 -- the hall calls that stand, after the doors' turns
-pub calls_kept : {turn : World → ℕ → Step} {world w : World} {l l' : List ℕ} {at i to : ℕ} {opened : List (Option JustOpened)} → Runs turn world l at i w opened l' to
+pub calls_kept : {turn : World → ℕ → Step} {world w : World} {l l' : Log} {i : ℕ} {opened : List (Option JustOpened)} → Runs turn world l i w opened l'
     → standing w ≡ standing world
-calls_kept {turn} {world} {w} {l} {l'} {at} {i} k = ap standing k.left ∙ kept turn world standing (λ v j s. refl) i
+calls_kept {turn} {world} {w} {l} {l'} {i} k = ap standing k.left ∙ kept turn world standing (λ v j s. refl) i
 
 -- the same calls cleared by the same cars
-pub cleared : (opened : List (Option JustOpened)) {a b : Standing} {n m : ℕ} {l l' : List ℕ} {at : ℕ} {r : Calls} → a ≡ b → n ≡ m
-    → Clears (clear_to opened a n) (clear_words_to opened a n) l at l' r → Clears (clear_to opened b m) (clear_words_to opened b m) l at l' r
+pub cleared : (opened : List (Option JustOpened)) {a b : Standing} {n m : ℕ} {l l' : Log} {r : Calls} → a ≡ b → n ≡ m
+    → Clears (clear_to opened a n) (clear_words_to opened a n) l l' r → Clears (clear_to opened b m) (clear_words_to opened b m) l l' r
 cleared opened e f h = rw (← e, ← f) h
 
 -- all cars' moves, then their doors: what both leave and write
-pub doored_after : (dt : Float) (world : World) {w v : World} {l l' l'' : List ℕ} {at to b : ℕ} → Moves (move_of dt) world l at (min world.cars.count 16) w l' to
-    → v ≡ doors_world w → Wrote l' to (doors_words w) l'' b
-    → (v ≡ doors_world (moved world dt).world) × Wrote l at ((moved world dt).words ++ doors_words (moved world dt).world) l'' b
+pub doored_after : (dt : Float) (world : World) {w v : World} {l l' l'' : Log} → Moves (move_of dt) world l (min world.cars.count 16) w l'
+    → v ≡ doors_world w → Told l' (doors_words w) l''
+    → (v ≡ doors_world (moved world dt).world) × Told l ((moved world dt).words ++ doors_words (moved world dt).world) l''
 unfolding moved run_cars
-doored_after dt world k e h = (rw (← k.left) e, rw (← k.left) (also k.wrote h))
+doored_after dt world k e h = (rw (← k.left) e, rw (← k.left) (told_also k.told h))
 
 -- ---- one turn more, as the code makes it
 
 -- the car goes on
-pub goes_on_lem : (dt : Float) (world w w' : World) (l l' l'' l''' : List ℕ) (at i n to to' : ℕ) (trip : Trip) (kind : LineKind) (leader : Option Float) (r : MovementResult) (lamps : Lamps)
-    (x : Emitted) (m total : ℕ) (distance : Float) → Moves (move_of dt) world l at i w l' to → n ≡ min world.stops.count 64
+pub goes_on_lem : (dt : Float) (world w w' : World) (l l' l'' l''' : Log) (i n : ℕ) (trip : Trip) (kind : LineKind) (leader : Option Float) (r : MovementResult) (lamps : Lamps)
+    (x m total : ℕ) (distance : Float) → Moves (move_of dt) world l i w l' → n ≡ min world.stops.count 64
     → trip ≡ trip_of (car_at w.cars.items i) → is_trip trip ≡ true
     → (((car_at w.cars.items i).line < 8) × (kind ≡ (line_at w.lines.items (car_at w.cars.items i).line).kind)) ⊎ ((8 ≤ (car_at w.cars.items i).line) × (kind ≡ Linear))
     → (is_loop kind ≡ false) ⊎ (leader ≡ leader_of kind w.cars i (car_at w.cars.items i))
     → r ≡ landing trip kind leader (car_at w.cars.items i) w.stops.items dt
-    → ((asks_work trip kind r.arrived ≡ false) × (lamps ≡ (car_at w.cars.items i).lamps))
+    → ((asks_work trip kind r.arrived ≡ false) × (lamps ≡ lamps_of (car_at w.cars.items i)))
     ⊎ ((asks_work trip kind r.arrived ≡ true) × (lamps ≡ work_of trip w.riders (car_at w.cars.items i) w.stops.items i))
-    → Tells (words_by trip i kind w.stops.items n (car_at w.cars.items i) r lamps) (moves_by trip kind w.stops.items n (car_at w.cars.items i) r) l' to l'' x
-    → m ≡ plus (car_at w.cars.items i).move_count x.count → total ≡ plus w.total_moves x.count
+    → Tells (words_by trip i kind w.stops.items n (car_at w.cars.items i) r lamps) (moves_by trip kind w.stops.items n (car_at w.cars.items i) r) l' l'' x
+    → m ≡ plus (car_at w.cars.items i).move_count x → total ≡ plus w.total_moves x
     → distance ≡ distance_by trip kind w.reposition_distance (car_at w.cars.items i).motion.position r.position
-    → r.arrived ≡ false → w' ≡ after w (thrice w.cars.items i r.position r.velocity m) total distance → l''' ≡ l'' → to' ≡ x.at
-    → Moves (move_of dt) world l at (i + 1) w' l''' to'
-goes_on_lem dt world w w' l l' l'' l''' at i n to to' trip kind leader r lamps x m total distance k en et t ek lead er wk told em eo ed h ew el eto =
+    → r.arrived ≡ false → w' ≡ after w (thrice w.cars.items i r.position r.velocity m) total distance → l''' ≡ l''
+    → Moves (move_of dt) world l (i + 1) w' l'''
+goes_on_lem dt world w w' l l' l'' l''' i n trip kind leader r lamps x m total distance k en et t ek lead er wk told em eo ed h ew el =
     let f : comes trip r.arrived ≡ false = rw er (came trip kind leader (car_at w.cars.items i) w.stops.items dt t) ∙ h in
     let e : move_of dt w i ≡ passes w i trip kind r =
     moves dt w i trip kind leader r lamps et (kind_of_lem w.lines.items (car_at w.cars.items i).line kind ek) lead er wk ∙ rw (t, f) in
@@ -195,24 +195,24 @@ goes_on_lem dt world w w' l l' l'' l''' at i n to to' trip kind leader r lamps x
     let tells = rw (n', f) at told in
     let left : w' ≡ stepped w i (passes w i trip kind r) =
     ew ∙ ap (λ (z : List Car). after w z total distance) (lands w.cars.items i r.position r.velocity m) ∙ rw (em, eo, ed, tells.count) in
-    more k e left (rw (el, eto) tells.wrote)
+    more k e left (rw el tells.told)
 
 -- it comes to its stop
-pub comes_in : (dt : Float) (world w w' : World) (l l' l'' l''' : List ℕ) (at i n to to' : ℕ) (trip : Trip) (kind : LineKind) (leader : Option Float) (r : MovementResult) (lamps : Lamps)
-    (x : Emitted) (m total : ℕ) (distance : Float) (c : Car) → Moves (move_of dt) world l at i w l' to → n ≡ min world.stops.count 64
+pub comes_in : (dt : Float) (world w w' : World) (l l' l'' l''' : Log) (i n : ℕ) (trip : Trip) (kind : LineKind) (leader : Option Float) (r : MovementResult) (lamps : Lamps)
+    (x m total : ℕ) (distance : Float) (c : Car) → Moves (move_of dt) world l i w l' → n ≡ min world.stops.count 64
     → trip ≡ trip_of (car_at w.cars.items i) → is_trip trip ≡ true
     → (((car_at w.cars.items i).line < 8) × (kind ≡ (line_at w.lines.items (car_at w.cars.items i).line).kind)) ⊎ ((8 ≤ (car_at w.cars.items i).line) × (kind ≡ Linear))
     → (is_loop kind ≡ false) ⊎ (leader ≡ leader_of kind w.cars i (car_at w.cars.items i))
     → r ≡ landing trip kind leader (car_at w.cars.items i) w.stops.items dt
-    → ((asks_work trip kind r.arrived ≡ false) × (lamps ≡ (car_at w.cars.items i).lamps))
+    → ((asks_work trip kind r.arrived ≡ false) × (lamps ≡ lamps_of (car_at w.cars.items i)))
     ⊎ ((asks_work trip kind r.arrived ≡ true) × (lamps ≡ work_of trip w.riders (car_at w.cars.items i) w.stops.items i))
-    → Tells (words_by trip i kind w.stops.items n (car_at w.cars.items i) r lamps) (moves_by trip kind w.stops.items n (car_at w.cars.items i) r) l' to l'' x
-    → m ≡ plus (car_at w.cars.items i).move_count x.count → total ≡ plus w.total_moves x.count
+    → Tells (words_by trip i kind w.stops.items n (car_at w.cars.items i) r lamps) (moves_by trip kind w.stops.items n (car_at w.cars.items i) r) l' l'' x
+    → m ≡ plus (car_at w.cars.items i).move_count x → total ≡ plus w.total_moves x
     → distance ≡ distance_by trip kind w.reposition_distance (car_at w.cars.items i).motion.position r.position
     → r.arrived ≡ true → c ≡ come trip (car_at (thrice w.cars.items i r.position r.velocity m) i) lamps w.ticks
-    → w' ≡ after w (set (thrice w.cars.items i r.position r.velocity m) i c) total distance → l''' ≡ l'' → to' ≡ x.at
-    → Moves (move_of dt) world l at (i + 1) w' l''' to'
-comes_in dt world w w' l l' l'' l''' at i n to to' trip kind leader r lamps x m total distance c k en et t ek lead er wk told em eo ed h ec ew el eto =
+    → w' ≡ after w (set (thrice w.cars.items i r.position r.velocity m) i c) total distance → l''' ≡ l''
+    → Moves (move_of dt) world l (i + 1) w' l'''
+comes_in dt world w w' l l' l'' l''' i n trip kind leader r lamps x m total distance c k en et t ek lead er wk told em eo ed h ec ew el =
     let f : comes trip r.arrived ≡ true = rw er (came trip kind leader (car_at w.cars.items i) w.stops.items dt t) ∙ h in
     let e : move_of dt w i ≡ arrives w i trip kind r lamps =
     moves dt w i trip kind leader r lamps et (kind_of_lem w.lines.items (car_at w.cars.items i).line kind ek) lead er wk ∙ rw (t, f) in
@@ -221,9 +221,9 @@ comes_in dt world w w' l l' l'' l''' at i n to to' trip kind leader r lamps x m 
     ew ∙ ap (λ (z : List Car). after w z total distance)
     (ap (λ (z : Car). set (thrice w.cars.items i r.position r.velocity m) i z) ec ∙ comes_to w.cars.items i r.position r.velocity m trip lamps w.ticks)
     ∙ rw (em, eo, ed, tells.count) in
-    more k e left (rw (el, eto) tells.wrote)
+    more k e left (rw el tells.told)
 
 -- it rests
-pub stays : (dt : Float) (world w w' : World) (l l' l''' : List ℕ) (at i to to' : ℕ) (trip : Trip) → Moves (move_of dt) world l at i w l' to
-    → trip ≡ trip_of (car_at w.cars.items i) → is_trip trip ≡ false → w' ≡ w → l''' ≡ l' → to' ≡ to → Moves (move_of dt) world l at (i + 1) w' l''' to'
-stays dt world w w' l l' l''' at i to to' trip k et h ew el eto = more k (rests dt w i trip et h) (ew ∙ stepped_same w i) (rw (el, eto) wrote_none)
+pub stays : (dt : Float) (world w w' : World) (l l' l''' : Log) (i : ℕ) (trip : Trip) → Moves (move_of dt) world l i w l'
+    → trip ≡ trip_of (car_at w.cars.items i) → is_trip trip ≡ false → w' ≡ w → l''' ≡ l' → Moves (move_of dt) world l (i + 1) w' l'''
+stays dt world w w' l l' l''' i trip k et h ew el = more k (rests dt w i trip et h) (ew ∙ stepped_same w i) (rw el told_none)

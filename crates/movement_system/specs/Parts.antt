@@ -3,7 +3,8 @@ use Rattle.std.specs.Prelude.{◌≡◌, false, true, cond, List, ℕ, eqb, leng
 use Rattle.motion.specs.declared.movement.MovementResult.{MovementResult}
 use Rattle.world.specs.declared.Car.{Car}
 use Rattle.world.specs.declared.LineKind.{LineKind}
-use Rattle.log_writes.specs.Log.{Wrote}
+use Rattle.log_writes.specs.Told.{Told}
+use Rattle.log_writes.specs.declared.Log.{Log}
 use Rattle.world.specs.declared.Lamps.{Lamps}
 use Rattle.float.specs.Float as Float
 use Rattle.trips.specs.Spans.{moving_up}
@@ -12,7 +13,6 @@ use Rattle.trips.specs.declared.span.Span.TheVariants.{Range, Seam}
 use Rattle.trips.specs.declared.Trip.{Trip}
 use Rattle.movement_system.specs.Passing.{passing_words}
 use Rattle.movement_system.specs.Movement.{passed_by}
-use Rattle.movement_system.specs.declared.Emitted.{Emitted}
 use Rattle.movement_system.specs.declared.Ends.{Ends}
 use Rattle.moves.specs.Moves.{comes, coming_words}
 
@@ -37,7 +37,7 @@ words_by trip i kind stops n c r lamps =
 abbrev pub moves_by : Trip → LineKind → List Float → ℕ → Car → MovementResult → ℕ
 moves_by trip kind stops n c r = cond (comes trip r.arrived) 1 (length (passed_by trip kind stops n c.motion.position r))
 
--- words told by code, and the moves that they are
-pub record Tells (words : List ℕ) (moves : ℕ) (l : List ℕ) (at : ℕ) (l' : List ℕ) (r : Emitted) : Type 0 where
-  pub count : r.count ≡ moves
-  pub wrote : Wrote l at words l' r.at
+-- words told by code, and the moves that they are: n, as it answers
+pub record Tells (words : List ℕ) (moves : ℕ) (l : Log) (l' : Log) (n : ℕ) : Type 0 where
+  pub count : n ≡ moves
+  pub told : Told l words l'

@@ -11,7 +11,7 @@ use doors_system::{door_turn, has_turn};
 use hall_calls::clear_hall_calls;
 use landing::{landing, leader_of};
 use log_words::Event;
-use log_writes::emit;
+use log_writes::Log;
 use movement_system::turn::tell;
 use moves::{come, distance_by};
 use record_kinds::{change, take_tick};
@@ -91,7 +91,8 @@ pub fn record(world: World, words: &[u32], log: &mut [u32]) -> Recorded
     // 3. the tick's word; movement.rs, run: car by car, each on positions already updated in this tick. A car at rest is left alone.
     let stop_count = w.stops.count;
     let sort = sorted_stops(&w.stops);
-    let mut to = emit(log, 0, Event::TickMade { tick: w.ticks });
+    let mut log = Log::new(log);
+    log.emit(Event::TickMade { tick: w.ticks });
     for i in 0..cars {
         let car = w.cars.items[i];
         let trip = trip_of(car);
@@ -113,25 +114,14 @@ pub fn record(world: World, words: &[u32], log: &mut [u32]) -> Recorded
                 let row = w.cars.items[i];
                 lamps = work_of(trip, &w.riders, row, &w.stops.items, number);
             }
-            let told = tell(
-                log,
-                to,
-                number,
-                trip,
-                kind,
-                car,
-                result,
-                lamps,
-                &sort,
-                &w.stops.items,
-                stop_count,
+            let moves = tell(
+                &mut log, number, trip, kind, car, result, lamps, &sort, &w.stops.items, stop_count,
             );
             w.cars.items[i].motion.position = result.position;
             w.cars.items[i].motion.velocity = result.velocity;
-            w.cars.items[i].move_count = car.move_count.wrapping_add(told.count);
-            w.total_moves = w.total_moves.wrapping_add(told.count);
+            w.cars.items[i].move_count = car.move_count.wrapping_add(moves);
+            w.total_moves = w.total_moves.wrapping_add(moves);
             w.reposition_distance = distance_by(trip, kind, w.reposition_distance, car, result);
-            to = told.at;
             if result.arrived {
                 let row = w.cars.items[i];
                 let arrived = come(row, trip, lamps, w.ticks);
@@ -150,20 +140,19 @@ pub fn record(world: World, words: &[u32], log: &mut [u32]) -> Recorded
             if car.door_command_queue.count != 0 {
                 traversing = has_rider_traversing(&w.riders, number);
             }
-            let turned = door_turn(log, to, number, car, line, traversing, &w.stops);
+            let turned = door_turn(&mut log, number, car, line, traversing, &w.stops);
             w.cars.items[i] = turned.car;
             just_opened[i] = turned.opened;
-            to = turned.at;
         }
     }
-    let calls = clear_hall_calls(log, to, just_opened, cars, w.up_calls, w.down_calls);
+    let calls = clear_hall_calls(&mut log, just_opened, cars, w.up_calls, w.down_calls);
     w.up_calls = calls.up;
     w.down_calls = calls.down;
     w.ticks = w.ticks.wrapping_add(1);
     Recorded {
         answer: Ok(Accepted {
             used: words_used,
-            written: calls.at,
+            written: log.at,
         }),
         world: w,
     }

@@ -1,8 +1,9 @@
 -- `record::record` meets its contract: refusal 0 by the first loop, then what was read, then a tick by the two loops. Assumes nothing.
-use Rattle.std.proofs.Common.{◌≡◌, ℕ, ◌+◌, ◌-◌, ◌<◌, ◌≤◌, min, Bool, false, ◌||◌, List, sym, refl, ap, ◌∙◌, inl, inr, add-one, arith, rules}
+use Rattle.std.proofs.Common.{◌≡◌, ℕ, ◌+◌, ◌≤◌, min, Bool, false, ◌||◌, List, sym, refl, ap, ◌∙◌, inl, inr, add-one, arith, rules}
 use mathlib.Core.Bool.{or_assoc, or-false}
 use lib.Ieee.{Float}
-use Rattle.log_writes.proofs.Writing.{wrote_none, also, wrote_length}
+use Rattle.log_writes.proofs.Telling.{told_none, told_also}
+use Rattle.log_writes.specs.declared.Log.{Log}
 use Rattle.sound_rows.specs.Rows.{any_to}
 use Rattle.sound.specs.Sound.{broken}
 use Rattle.sound.specs.Parts.{cars_broken, rest_broken}
@@ -15,9 +16,7 @@ use Rattle.std.specs.declared.option.Option.{Option}
 use Rattle.steps.specs.declared.JustOpened.{JustOpened}
 use Rattle.laws.specs.Numbers.{plus}
 use Rattle.sorted.specs.Sorted.{sorted_table}
-use Rattle.doors_system.specs.Doors.{door_of}
 use Rattle.doors_system.proofs.Running.{Runs, same, more, turn_on_lem, door_of_lem, passed, ended}
-use Rattle.movement_system.specs.Movement.{move_of}
 use Rattle.movement_system.proofs.Moving.{Moves, stops_kept, cars_kept, calls_kept, cleared, doored_after, comes_in, goes_on_lem, stays}
 use Rattle.tick.specs.Tick.{ticked, tick_world, tick_words}
 use Rattle.record.proofs.Giving.{is_broken, is_whole, is_refused, is_made, is_changed, tick_refused, tick_taken_lem}
@@ -26,11 +25,11 @@ use Rattle.record.proofs.record.Goals.{Else-broken, then-is_trip+then-result, th
 
 -- ---- counts by another name
 
-moves_at : {turn : World → ℕ → Step} {world w : World} {l l' : List ℕ} {at i j to : ℕ} → Moves turn world l at i w l' to → i ≡ j → Moves turn world l at j w l' to
+moves_at : {turn : World → ℕ → Step} {world w : World} {l l' : Log} {i j : ℕ} → Moves turn world l i w l' → i ≡ j → Moves turn world l j w l'
 moves_at k e = rw (← e) k
 
-runs_at : {turn : World → ℕ → Step} {world w : World} {l l' : List ℕ} {at i j to : ℕ} {os : List (Option JustOpened)} → Runs turn world l at i w os l' to → i ≡ j
-    → Runs turn world l at j w os l' to
+runs_at : {turn : World → ℕ → Step} {world w : World} {l l' : Log} {i j : ℕ} {os : List (Option JustOpened)} → Runs turn world l i w os l' → i ≡ j
+    → Runs turn world l j w os l'
 runs_at k e = rw (← e) k
 
 -- ---- refusal 0
@@ -79,7 +78,7 @@ returns-in-Err-taken c =
 
 pub loop-i-2-init : goal.loop-i-2-init
 unfolding run_to
-loop-i-2-init c = (search rules, record { left = refl; wrote = wrote_none }, search rules)
+loop-i-2-init c = (search rules, record { left = refl; told = told_none }, search rules)
 
 pub loop-i-2-preserved : goal.loop-i-2-preserved
 unfolding plus
@@ -93,7 +92,7 @@ loop-i-2-preserved c =
     elim c.if-is_trip.branch [
       | then-is_trip+then-result u ↦ (
         so_far,
-        comes_in (c.in-Ok-Tick.dt) _ s.w c.if-is_trip.w _ s.log _ c.if-is_trip.log c.emit-to.result s.i n s.to c.if-is_trip.to trip.result u.if-line-lt8.kind u.if-is_loop.leader u.landing-result.result u.if-asks_work.lamps u.tell-told.result _ _ u.distance_by.result u.come-arrived.result s.invariant.1 refl trip.ensures (rw c.is_trip.ensures at u.if-is_trip.true)
+        comes_in (c.in-Ok-Tick.dt) _ s.w c.if-is_trip.w _ s.log _ c.if-is_trip.log s.i n trip.result u.if-line-lt8.kind u.if-is_loop.leader u.landing-result.result u.if-asks_work.lamps u.tell-moves.result _ _ u.distance_by.result u.come-arrived.result s.invariant.1 refl trip.ensures (rw c.is_trip.ensures at u.if-is_trip.true)
             (elim u.if-line-lt8.branch [ then-line-lt8 z ↦ inl (z.if-line-lt8.true, z.kind-is) | else-line-lt8 z ↦ inr (z.if-line-lt8.false, z.kind-is) ])
             (elim u.if-is_loop.branch [ then-is_loop z ↦ inr (z.leader-is ∙ z.leader_of-leader.ensures) | else-is_loop z ↦ inl (rw u.is_loop.ensures at z.if-is_loop.false) ])
             u.landing-result.ensures
@@ -101,13 +100,13 @@ loop-i-2-preserved c =
               | then-asks_work z ↦ inr (rw u.asks_work.ensures at z.if-asks_work.true, z.lamps-is ∙ z.work_of-lamps.ensures)
               | else-asks_work z ↦ inl (rw u.asks_work.ensures at z.if-asks_work.false, z.lamps-is)
             ])
-            (u.tell-told.ensures order) refl refl u.distance_by.ensures
-            u.if-result.true u.come-arrived.ensures u.w-is u.log-is u.to-is,
+            (u.tell-moves.ensures order) refl refl u.distance_by.ensures
+            u.if-result.true u.come-arrived.ensures u.w-is u.log-is,
         s.invariant.2,
       )
       | then-is_trip+else-result u ↦ (
         so_far,
-        goes_on_lem (c.in-Ok-Tick.dt) _ s.w c.if-is_trip.w _ s.log _ c.if-is_trip.log c.emit-to.result s.i n s.to c.if-is_trip.to trip.result u.if-line-lt8.kind u.if-is_loop.leader u.landing-result.result u.if-asks_work.lamps u.tell-told.result _ _ u.distance_by.result s.invariant.1 refl trip.ensures (rw c.is_trip.ensures at u.if-is_trip.true)
+        goes_on_lem (c.in-Ok-Tick.dt) _ s.w c.if-is_trip.w _ s.log _ c.if-is_trip.log s.i n trip.result u.if-line-lt8.kind u.if-is_loop.leader u.landing-result.result u.if-asks_work.lamps u.tell-moves.result _ _ u.distance_by.result s.invariant.1 refl trip.ensures (rw c.is_trip.ensures at u.if-is_trip.true)
             (elim u.if-line-lt8.branch [ then-line-lt8 z ↦ inl (z.if-line-lt8.true, z.kind-is) | else-line-lt8 z ↦ inr (z.if-line-lt8.false, z.kind-is) ])
             (elim u.if-is_loop.branch [ then-is_loop z ↦ inr (z.leader-is ∙ z.leader_of-leader.ensures) | else-is_loop z ↦ inl (rw u.is_loop.ensures at z.if-is_loop.false) ])
             u.landing-result.ensures
@@ -115,18 +114,18 @@ loop-i-2-preserved c =
               | then-asks_work z ↦ inr (rw u.asks_work.ensures at z.if-asks_work.true, z.lamps-is ∙ z.work_of-lamps.ensures)
               | else-asks_work z ↦ inl (rw u.asks_work.ensures at z.if-asks_work.false, z.lamps-is)
             ])
-            (u.tell-told.ensures order) refl refl u.distance_by.ensures
-            u.if-result.false u.w-is u.log-is u.to-is,
+            (u.tell-moves.ensures order) refl refl u.distance_by.ensures
+            u.if-result.false u.w-is u.log-is,
         s.invariant.2,
       )
-      | else-is_trip u ↦ (so_far, stays c.in-Ok-Tick.dt _ s.w c.if-is_trip.w _ s.log c.if-is_trip.log c.emit-to.result s.i s.to c.if-is_trip.to trip.result s.invariant.1 trip.ensures (rw c.is_trip.ensures at u.if-is_trip.false) u.w-is u.log-is u.to-is, s.invariant.2)
+      | else-is_trip u ↦ (so_far, stays c.in-Ok-Tick.dt _ s.w c.if-is_trip.w _ s.log c.if-is_trip.log s.i trip.result s.invariant.1 trip.ensures (rw c.is_trip.ensures at u.if-is_trip.false) u.w-is u.log-is, s.invariant.2)
     ]
 
 -- ---- the doors
 
 pub loop-i-3-init : goal.loop-i-3-init
 unfolding run_to
-loop-i-3-init c = (search rules, record { left = refl; opens = refl; wrote = wrote_none }, c.loop-i-2.invariant.2)
+loop-i-3-init c = (search rules, record { left = refl; opens = refl; told = told_none }, c.loop-i-2.invariant.2)
 
 pub loop-i-3-preserved : goal.loop-i-3-preserved
 loop-i-3-preserved c =
@@ -137,17 +136,13 @@ loop-i-3-preserved c =
         | then-has_turn u ↦
             let t = u.door_turn-turned in
             let h = turn_on_lem w.w w.i (car_at w.w.cars.items w.i) _ _ u.line_at-line.ensures (elim u.if-car-ne0.branch [ then-car-ne0 v ↦ inr (v.traversing-is ∙ v.has_rider_traversing-traversing.ensures) | else-car-ne0 v ↦ inl v.if-car-ne0.false ]) t.ensures in
-            same (more (step_of w.w t.result.car _ t.result.opened) w.invariant.1 (door_of_lem w.w w.i h) h.wrote) u.log-is u.w-is u.just_opened-is u.to-is
-        | else-has_turn u ↦ same (passed w.invariant.1 (omega (arith, test, w.invariant.2)) (sym c.has_turn.ensures ∙ u.if-has_turn.false)) u.log-is u.w-is u.just_opened-is u.to-is
+            same (more (step_of w.w t.result.car _ t.result.opened) w.invariant.1 (door_of_lem w.w w.i h) h.told) u.log-is u.w-is u.just_opened-is
+        | else-has_turn u ↦ same (passed w.invariant.1 (omega (arith, test, w.invariant.2)) (sym c.has_turn.ensures ∙ u.if-has_turn.false)) u.log-is u.w-is u.just_opened-is
       ],
       w.invariant.2,
     )
 
 -- ---- the tick's end
-
-pub shape_of-log : goal.shape_of-log
-shape_of-log c =
-    wrote_length (also c.emit-to.ensures (also c.loop-i-2.invariant.1.wrote (also c.loop-i-3.invariant.1.wrote c.clear_hall_calls-calls.ensures.wrote)))
 
 pub returns : goal.returns
 unfolding tick_world tick_words plus
@@ -162,6 +157,7 @@ returns c =
     let d : min c.min-cars.result 16 ≡ min s.w.cars.count 16 = omega (arith, n, cars_kept k) in
     let r = ended (runs_at t.invariant.1 f) (cleared t.just_opened (calls_kept t.invariant.1) d c.clear_hall_calls-calls.ensures) in
     let x = doored_after c.in-Ok-Tick.dt w k r.0 r.1 in
+    let all = told_also c.emit.ensures x.1 in
     is_whole w _ _ (whole (goal.at.returns c).Else-broken) c.decode.ensures
     (is_made w _ (rw c.in-Ok-Tick.field-0-is at c.in-Ok-Tick.is) (tick_taken_lem w _ _ _ (sym c.take_tick-taken.ensures ∙ c.in_default.is) refl
-    (ap ticked x.0) (also c.emit-to.ensures x.1)))
+    (ap ticked x.0) (search (rules, all.wrote, all.slice))))
