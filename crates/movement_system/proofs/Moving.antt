@@ -180,7 +180,7 @@ pub goes_on_lem : (dt : Float) (world w w' : World) (l l' l'' l''' : Log) (i n :
     → (((car_at w.cars.items i).line < 8) × (kind ≡ (line_at w.lines.items (car_at w.cars.items i).line).kind)) ⊎ ((8 ≤ (car_at w.cars.items i).line) × (kind ≡ Linear))
     → (is_loop kind ≡ false) ⊎ (leader ≡ leader_of kind w.cars i (car_at w.cars.items i))
     → r ≡ landing trip kind leader (car_at w.cars.items i) w.stops.items dt
-    → ((asks_work trip kind r.arrived ≡ false) × (lamps ≡ lamps_of (car_at w.cars.items i)))
+    → ((asks_work trip kind r.arrived ≡ false) × (lamps ≡ (car_at w.cars.items i).lamps))
     ⊎ ((asks_work trip kind r.arrived ≡ true) × (lamps ≡ work_of trip w.riders (car_at w.cars.items i) w.stops.items i))
     → Tells (words_by trip i kind w.stops.items n (car_at w.cars.items i) r lamps) (moves_by trip kind w.stops.items n (car_at w.cars.items i) r) l' l'' x
     → m ≡ plus (car_at w.cars.items i).move_count x → total ≡ plus w.total_moves x
@@ -204,7 +204,7 @@ pub comes_in : (dt : Float) (world w w' : World) (l l' l'' l''' : Log) (i n : �
     → (((car_at w.cars.items i).line < 8) × (kind ≡ (line_at w.lines.items (car_at w.cars.items i).line).kind)) ⊎ ((8 ≤ (car_at w.cars.items i).line) × (kind ≡ Linear))
     → (is_loop kind ≡ false) ⊎ (leader ≡ leader_of kind w.cars i (car_at w.cars.items i))
     → r ≡ landing trip kind leader (car_at w.cars.items i) w.stops.items dt
-    → ((asks_work trip kind r.arrived ≡ false) × (lamps ≡ lamps_of (car_at w.cars.items i)))
+    → ((asks_work trip kind r.arrived ≡ false) × (lamps ≡ (car_at w.cars.items i).lamps))
     ⊎ ((asks_work trip kind r.arrived ≡ true) × (lamps ≡ work_of trip w.riders (car_at w.cars.items i) w.stops.items i))
     → Tells (words_by trip i kind w.stops.items n (car_at w.cars.items i) r lamps) (moves_by trip kind w.stops.items n (car_at w.cars.items i) r) l' l'' x
     → m ≡ plus (car_at w.cars.items i).move_count x → total ≡ plus w.total_moves x

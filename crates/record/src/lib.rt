@@ -67,22 +67,15 @@ fn answered(changed: Changed, used: usize) -> Recorded
 pub fn record(world: World, words: &[u32], log: &mut [u32]) -> Recorded
     ensures { Call.Gives result log.new (Call.record_of world words.now log.old) }
 {
-    // 1. refusal 0: the cars one by one, and the rest
-    let mut w = world;
-    let cars = w.cars.count.min(16);
-    let mut broken = rest_broken(w);
-    for i in 0..cars {
-        let car = w.cars.items[i];
-        broken = broken | car_broken(w.lines.count, w.stops.count, car);
-    }
-    if broken {
-        return refused(w, Refusal::BrokenWorld);
+    // 1. refusal 0
+    if broken(&world) {
+        return refused(world, Refusal::BrokenWorld);
     }
     // 2. refusals 1 to 12, and every record but the tick
     let (dt, words_used) = match decode(words) {
-        Ok(Read::Accepted(found, used)) => return answered(change(w, found), used),
+        Ok(Read::Accepted(found, used)) => return answered(change(world, found), used),
         Ok(Read::Tick { dt, used }) => (dt, used),
-        Err(refusal) => return refused(w, refusal),
+        Err(refusal) => return refused(world, refusal),
     };
     let taken = take_tick(w.started, w.ticks, w.cars.count, w.stops.count, log.len());
     if let Err(refusal) = taken {

@@ -9,7 +9,6 @@ use Rattle.laws.proofs.Bools.{or_left, or_right}
 use Rattle.sound_rows.specs.Rows.{any_to, line_broken, rider_broken}
 use Rattle.sound.specs.Sound.{calls_unloaded, counts_broken, broken}
 use Rattle.world.specs.World.{line_at, rider_at}
-use Rattle.sound.specs.Parts.{rest_broken, cars_broken}
 use Rattle.world.specs.declared.World.{World}
 
 -- the counts of a world whose counts are not broken
@@ -41,34 +40,3 @@ counts_fit w h =
       ticks = ltb-false (2 ^ 28) w.ticks (or_right (a || b || c || d) e h5);
       moves = leb-false (2 ^ 48) w.total_moves (or_right (a || b || c || d || e) (leb (2 ^ 48) w.total_moves) h);
     }
-
--- a test may be put off to the end
-later : (x k r : Bool) → ((x || k) || r) ≡ ((x || r) || k)
-later true k r = refl
-later false k r = or_comm k r
-
-pub put_off : (x k u d : Bool) → (((x || k) || u) || d) ≡ (((x || u) || d) || k)
-put_off x k u d = ap (λ (y : Bool). y || d) (later x k u) ∙ later (x || u) k d
-
--- refusal 0 is the rest and the cars
-pub in_parts : (w : World) → broken w ≡ (rest_broken w || cars_broken w w.cars.count)
-unfolding broken rest_broken
-in_parts w =
-    let x = counts_broken w || any_to (λ i. line_broken w.stops.count (line_at w.lines.items i)) w.lines.count in
-    let k = cars_broken w w.cars.count in
-    let r = any_to (λ i. rider_broken w.stops.count w.cars.count (rider_at w.riders.items i)) w.riders.count in
-    let u = calls_unloaded w.stops.count w.up_calls in
-    let d = calls_unloaded w.stops.count w.down_calls in
-    ap (λ (y : Bool). (y || u) || d) (later x k r) ∙ put_off (x || r) k u d
-
--- where the rest is not broken the counts fit
-pub rest_fits : (w : World) → rest_broken w ≡ false → Counts w
-unfolding rest_broken
-rest_fits w h = counts_fit w (or_left _ _ (or_left _ _ (or_left _ _ (or_left _ _ h))))
-
--- so the first 16 places are all the cars
-pub in_places : (w : World) (b : Bool) → rest_broken w ≡ b → broken w ≡ (b || cars_broken w (min w.cars.count 16))
-in_places w true h = in_parts w ∙ rw h
-in_places w false h =
-    let e : min w.cars.count 16 ≡ w.cars.count = omega (arith, (rest_fits w h).cars) in
-    in_parts w ∙ rw (h, e)

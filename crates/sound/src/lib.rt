@@ -5,7 +5,6 @@ ghost use Rattle.std.specs.Prelude.{◌≡◌, ◌||◌, false};
 ghost use Rattle.std.specs.List.{fold};
 ghost use Rattle.sound_rows.specs.Rows as Rows;
 ghost use Rattle.sound.specs.Sound as Sound;
-ghost use Rattle.sound.specs.Parts as Parts;
 
 use sound_rows::{car_broken, line_broken, rider_broken};
 use world::{Car, Line, Rider, World};
@@ -44,8 +43,8 @@ fn riders_broken(stops: usize, cars: usize, riders: &[Rider]) -> bool
 }
 
 #[tactic(auto, unfolding(crate::specs::Sound::counts_broken))]
-fn counts_broken(world: World) -> bool
-    ensures { result ≡ Sound.counts_broken world }
+fn counts_broken(world: &World) -> bool
+    ensures { result ≡ Sound.counts_broken world.now }
 {
     (64 < world.stops.count)
         | (8 < world.lines.count)
@@ -55,35 +54,18 @@ fn counts_broken(world: World) -> bool
         | (0x1_0000_0000_0000 <= world.total_moves)
 }
 
-// Refusal 0 but for the cars.
-#[tactic(auto, unfolding(crate::specs::Parts::rest_broken))]
-pub fn rest_broken(world: World) -> bool
-    ensures { result ≡ Parts.rest_broken world }
+// Refusal 0. The world is lent: its tables would be copied.
+pub fn broken(world: &World) -> bool
+    ensures { result ≡ Sound.broken world.now }
 {
     if counts_broken(world) {
         return true;
     }
     let stops = world.stops.count;
+    let cars = world.cars.count;
     lines_broken(stops, &world.lines.items[..world.lines.count])
+        | cars_broken(world.lines.count, stops, &world.cars.items[..cars])
+        | riders_broken(stops, cars, &world.riders.items[..world.riders.count])
         | calls_unloaded(stops, world.up_calls)
         | calls_unloaded(stops, world.down_calls)
-        | riders_broken(
-            stops,
-            world.cars.count,
-            &world.riders.items[..world.riders.count],
-        )
-}
-
-// Refusal 0.
-pub fn broken(world: World) -> bool
-    ensures { result ≡ Sound.broken world }
-{
-    if rest_broken(world) {
-        return true;
-    }
-    cars_broken(
-        world.lines.count,
-        world.stops.count,
-        &world.cars.items[..world.cars.count],
-    )
 }
