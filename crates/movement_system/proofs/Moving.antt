@@ -1,5 +1,5 @@
 -- The cars' turns: what a turn of the code is in the world so far. Assumes nothing.
-use mathlib.Core.Path.{◌≡◌, refl, ap, ◌∙◌}
+use mathlib.Core.Path.{◌≡◌, refl, ap, ◌∙◌, sym}
 use mathlib.Core.Bool.{true, false, cond}
 use mathlib.Core.Logic.{◌⊎◌, ⊎_elim}
 use mathlib.Core.List.{List, [], ◌∷◌, ◌++◌}
@@ -31,6 +31,7 @@ use Rattle.doors_system.proofs.Running.{Runs}
 use Rattle.hall_calls.specs.Clearing.{Standing, Clears, clear_to, clear_words_to}
 use Rattle.hall_calls.specs.declared.Calls.{Calls}
 use Rattle.world.specs.declared.Lamps.{Lamps}
+use Rattle.world.specs.Tables.{Stops}
 use Rattle.trips.specs.Trips.{is_trip, is_loop, trip_of}
 use Rattle.landing.specs.Landing.{leader_of, landing}
 use Rattle.arrival.specs.Arrival.{asks_work, work_of}
@@ -41,21 +42,6 @@ use Rattle.movement_system.specs.Parts.{words_by, moves_by, Tells}
 use Rattle.moves.specs.Moves.{comes, come, distance_by}
 
 -- ---- what is read in a turn
-
-pub kind_of_lem : (lines : List Line) (line : ℕ) (kind : LineKind) → ((line < 8) × (kind ≡ (line_at lines line).kind)) ⊎ ((8 ≤ line) × (kind ≡ Linear))
-    → kind ≡ (line_of lines line).kind
-unfolding line_of
-kind_of_lem lines line kind h = ⊎_elim (λ z. z.1 ∙ rw (lt-ltb _ _ z.0)) (λ z. z.1 ∙ rw (le-ltb _ _ z.0)) h
-
-any_leader : (trip : Trip) (kind : LineKind) (l l' : Option Float) (c : Car) (stops : List Float) (dt : Float) → is_loop kind ≡ false
-    → landing trip kind l c stops dt ≡ landing trip kind l' c stops dt
-any_leader Rests kind l l' c stops dt h = refl
-any_leader Drives Linear l l' c stops dt h = refl
-any_leader Drives (Loop x y) l l' c stops dt h = yes h
-any_leader (GoesTo s) Linear l l' c stops dt h = refl
-any_leader (GoesTo s) (Loop x y) l l' c stops dt h = yes h
-any_leader (Repositions s) Linear l l' c stops dt h = refl
-any_leader (Repositions s) (Loop x y) l l' c stops dt h = yes h
 
 -- no Manual car arrives: whoever does comes to its stop
 came : (trip : Trip) (kind : LineKind) (l : Option Float) (c : Car) (stops : List Float) (dt : Float) → is_trip trip ≡ true
@@ -75,10 +61,10 @@ pub rests : (dt : Float) (w : World) (i : ℕ) (trip : Trip) → trip ≡ trip_o
 unfolding move_of
 rests dt w i trip et h = rw (← et, h)
 
--- by the leader and the remaining work, where they were looked for
+-- of one that moves: the remaining work is looked for where the turn asks for it
 pub moves : (dt : Float) (w : World) (i : ℕ) (trip : Trip) (kind : LineKind) (leader : Option Float) (r : MovementResult) (lamps : Lamps)
     → trip ≡ trip_of (car_at w.cars.items i) → kind ≡ (line_of w.lines.items (car_at w.cars.items i).line).kind
-    → (is_loop kind ≡ false) ⊎ (leader ≡ leader_of kind w.cars i (car_at w.cars.items i))
+    → leader ≡ leader_of kind w.cars i (car_at w.cars.items i)
     → r ≡ landing trip kind leader (car_at w.cars.items i) w.stops.items dt
     → ((asks_work trip kind r.arrived ≡ false) × (lamps ≡ (car_at w.cars.items i).lamps))
     ⊎ ((asks_work trip kind r.arrived ≡ true) × (lamps ≡ work_of trip w.riders (car_at w.cars.items i) w.stops.items i))
@@ -86,11 +72,9 @@ pub moves : (dt : Float) (w : World) (i : ℕ) (trip : Trip) (kind : LineKind) (
 unfolding move_of
 moves dt w i trip kind leader r lamps et ek lead er wk =
     let c = car_at w.cars.items i in
-    let a : r ≡ landing trip kind (leader_of kind w.cars i c) c w.stops.items dt =
-    er ∙ ⊎_elim (λ z. any_leader trip kind leader _ c w.stops.items dt z) (λ z. rw z) lead in
     let b : lamps ≡ cond (asks_work trip kind r.arrived) (work_of trip w.riders c w.stops.items i) c.lamps =
     ⊎_elim (λ z. z.1 ∙ rw z.0) (λ z. z.1 ∙ rw z.0) wk in
-    rw (← et, ← ek, ← a, ← b)
+    rw (← et, ← ek, ← lead, ← er, ← b)
 
 -- ---- a car changed in place
 
@@ -173,49 +157,58 @@ doored_after dt world k e h = (rw (← k.left) e, rw (← k.left) (told_also k.t
 
 -- ---- one turn more, as the code makes it
 
--- the car goes on
-pub goes_on_lem : (dt : Float) (world w w' : World) (l l' l'' l''' : Log) (i n : ℕ) (trip : Trip) (kind : LineKind) (leader : Option Float) (r : MovementResult) (lamps : Lamps)
-    (x m total : ℕ) (distance : Float) → Moves (move_of dt) world l i w l' → n ≡ min world.stops.count 64
-    → trip ≡ trip_of (car_at w.cars.items i) → is_trip trip ≡ true
-    → (((car_at w.cars.items i).line < 8) × (kind ≡ (line_at w.lines.items (car_at w.cars.items i).line).kind)) ⊎ ((8 ≤ (car_at w.cars.items i).line) × (kind ≡ Linear))
-    → (is_loop kind ≡ false) ⊎ (leader ≡ leader_of kind w.cars i (car_at w.cars.items i))
+-- a turn that the code has looked at: it moves, and as its definition says
+pub record Looked (dt : Float) (w : World) (i : ℕ) (trip : Trip) (kind : LineKind) (r : MovementResult) (lamps : Lamps) : Type 0 where
+  pub turn : move_of dt w i ≡ cond (comes trip r.arrived) (arrives w i trip kind r lamps) (passes w i trip kind r)
+  pub comes_as : comes trip r.arrived ≡ r.arrived
+
+pub looked : (dt : Float) (w : World) (i : ℕ) (trip : Trip) (kind : LineKind) (leader : Option Float) (r : MovementResult) (lamps : Lamps)
+    → trip ≡ trip_of (car_at w.cars.items i) → is_trip trip ≡ true → kind ≡ (line_of w.lines.items (car_at w.cars.items i).line).kind
+    → leader ≡ leader_of kind w.cars i (car_at w.cars.items i)
     → r ≡ landing trip kind leader (car_at w.cars.items i) w.stops.items dt
     → ((asks_work trip kind r.arrived ≡ false) × (lamps ≡ (car_at w.cars.items i).lamps))
     ⊎ ((asks_work trip kind r.arrived ≡ true) × (lamps ≡ work_of trip w.riders (car_at w.cars.items i) w.stops.items i))
-    → Tells (words_by trip i kind w.stops.items n (car_at w.cars.items i) r lamps) (moves_by trip kind w.stops.items n (car_at w.cars.items i) r) l' l'' x
+    → Looked dt w i trip kind r lamps
+looked dt w i trip kind leader r lamps et t ek lead er wk = record {
+  turn = moves dt w i trip kind leader r lamps et ek lead er wk ∙ rw t;
+  comes_as = rw er (came trip kind leader (car_at w.cars.items i) w.stops.items dt t);
+}
+
+-- the words that it told by the sort of the stops, and how many moves they are
+abbrev pub ToldBy : World → ℕ → Trip → LineKind → MovementResult → Lamps → Stops → Log → Log → ℕ → Type 0
+ToldBy w i trip kind r lamps sort l l' x =
+    let c = car_at w.cars.items i in
+    Tells (words_by trip i kind sort.items (min sort.count 64) c r lamps) (moves_by trip kind sort.items (min sort.count 64) c r) l l' x
+
+-- the car goes on
+pub goes_on_lem : (dt : Float) (world w w' : World) (l l' l'' l''' : Log) (i : ℕ) (trip : Trip) (kind : LineKind) (r : MovementResult) (lamps : Lamps)
+    (sort : Stops) (x m total : ℕ) (distance : Float) → Moves (move_of dt) world l i w l' → Looked dt w i trip kind r lamps → sort ≡ world.stops
+    → ToldBy w i trip kind r lamps sort l' l'' x
     → m ≡ plus (car_at w.cars.items i).move_count x → total ≡ plus w.total_moves x
     → distance ≡ distance_by trip kind w.reposition_distance (car_at w.cars.items i).motion.position r.position
     → r.arrived ≡ false → w' ≡ after w (thrice w.cars.items i r.position r.velocity m) total distance → l''' ≡ l''
     → Moves (move_of dt) world l (i + 1) w' l'''
-goes_on_lem dt world w w' l l' l'' l''' i n trip kind leader r lamps x m total distance k en et t ek lead er wk told em eo ed h ew el =
-    let f : comes trip r.arrived ≡ false = rw er (came trip kind leader (car_at w.cars.items i) w.stops.items dt t) ∙ h in
-    let e : move_of dt w i ≡ passes w i trip kind r =
-    moves dt w i trip kind leader r lamps et (kind_of_lem w.lines.items (car_at w.cars.items i).line kind ek) lead er wk ∙ rw (t, f) in
-    let n' : n ≡ min w.stops.count 64 = en ∙ rw (stops_kept k) in
-    let tells = rw (n', f) at told in
+goes_on_lem dt world w w' l l' l'' l''' i trip kind r lamps sort x m total distance k look es told em eo ed h ew el =
+    let f : comes trip r.arrived ≡ false = look.comes_as ∙ h in
+    let e : move_of dt w i ≡ passes w i trip kind r = look.turn ∙ rw f in
+    let s : sort ≡ w.stops = es ∙ sym (stops_kept k) in
+    let tells = rw (s, f) at told in
     let left : w' ≡ stepped w i (passes w i trip kind r) =
     ew ∙ ap (λ (z : List Car). after w z total distance) (lands w.cars.items i r.position r.velocity m) ∙ rw (em, eo, ed, tells.count) in
     more k e left (rw el tells.told)
 
 -- it comes to its stop
-pub comes_in : (dt : Float) (world w w' : World) (l l' l'' l''' : Log) (i n : ℕ) (trip : Trip) (kind : LineKind) (leader : Option Float) (r : MovementResult) (lamps : Lamps)
-    (x m total : ℕ) (distance : Float) (c : Car) → Moves (move_of dt) world l i w l' → n ≡ min world.stops.count 64
-    → trip ≡ trip_of (car_at w.cars.items i) → is_trip trip ≡ true
-    → (((car_at w.cars.items i).line < 8) × (kind ≡ (line_at w.lines.items (car_at w.cars.items i).line).kind)) ⊎ ((8 ≤ (car_at w.cars.items i).line) × (kind ≡ Linear))
-    → (is_loop kind ≡ false) ⊎ (leader ≡ leader_of kind w.cars i (car_at w.cars.items i))
-    → r ≡ landing trip kind leader (car_at w.cars.items i) w.stops.items dt
-    → ((asks_work trip kind r.arrived ≡ false) × (lamps ≡ (car_at w.cars.items i).lamps))
-    ⊎ ((asks_work trip kind r.arrived ≡ true) × (lamps ≡ work_of trip w.riders (car_at w.cars.items i) w.stops.items i))
-    → Tells (words_by trip i kind w.stops.items n (car_at w.cars.items i) r lamps) (moves_by trip kind w.stops.items n (car_at w.cars.items i) r) l' l'' x
+pub comes_in : (dt : Float) (world w w' : World) (l l' l'' l''' : Log) (i : ℕ) (trip : Trip) (kind : LineKind) (r : MovementResult) (lamps : Lamps)
+    (sort : Stops) (x m total : ℕ) (distance : Float) (c : Car) → Moves (move_of dt) world l i w l' → Looked dt w i trip kind r lamps
+    → ToldBy w i trip kind r lamps sort l' l'' x
     → m ≡ plus (car_at w.cars.items i).move_count x → total ≡ plus w.total_moves x
     → distance ≡ distance_by trip kind w.reposition_distance (car_at w.cars.items i).motion.position r.position
     → r.arrived ≡ true → c ≡ come trip (car_at (thrice w.cars.items i r.position r.velocity m) i) lamps w.ticks
     → w' ≡ after w (set (thrice w.cars.items i r.position r.velocity m) i c) total distance → l''' ≡ l''
     → Moves (move_of dt) world l (i + 1) w' l'''
-comes_in dt world w w' l l' l'' l''' i n trip kind leader r lamps x m total distance c k en et t ek lead er wk told em eo ed h ec ew el =
-    let f : comes trip r.arrived ≡ true = rw er (came trip kind leader (car_at w.cars.items i) w.stops.items dt t) ∙ h in
-    let e : move_of dt w i ≡ arrives w i trip kind r lamps =
-    moves dt w i trip kind leader r lamps et (kind_of_lem w.lines.items (car_at w.cars.items i).line kind ek) lead er wk ∙ rw (t, f) in
+comes_in dt world w w' l l' l'' l''' i trip kind r lamps sort x m total distance c k look told em eo ed h ec ew el =
+    let f : comes trip r.arrived ≡ true = look.comes_as ∙ h in
+    let e : move_of dt w i ≡ arrives w i trip kind r lamps = look.turn ∙ rw f in
     let tells = rw f at told in
     let left : w' ≡ stepped w i (arrives w i trip kind r lamps) =
     ew ∙ ap (λ (z : List Car). after w z total distance)

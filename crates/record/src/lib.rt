@@ -16,14 +16,13 @@ use movement_system::turn::tell;
 use moves::{come, distance_by};
 use record_kinds::{change, take_tick};
 use sorted::sorted_stops;
-use sound::rest_broken;
-use sound_rows::car_broken;
+use sound::broken;
 use steps::line_at;
 use tape::decode;
 use tape_records::Read;
-use trips::{is_loop, is_trip, trip_of};
+use trips::{is_trip, trip_of};
 use world::refusal::Refusal;
-use world::{LineKind, World};
+use world::World;
 
 // An accepted record: the words used and the log words written.
 #[derive(Clone, Copy)]
@@ -77,11 +76,13 @@ pub fn record(world: World, words: &[u32], log: &mut [u32]) -> Recorded
         Ok(Read::Tick { dt, used }) => (dt, used),
         Err(refusal) => return refused(world, refusal),
     };
+    let mut w = world;
     let taken = take_tick(w.started, w.ticks, w.cars.count, w.stops.count, log.len());
     if let Err(refusal) = taken {
         return refused(w, refusal);
     }
     // 3. the tick's word; movement.rs, run: car by car, each on positions already updated in this tick. A car at rest is left alone.
+    let cars = w.cars.count.min(16);
     let stop_count = w.stops.count;
     let sort = sorted_stops(&w.stops);
     let mut log = Log::new(log);
@@ -90,23 +91,15 @@ pub fn record(world: World, words: &[u32], log: &mut [u32]) -> Recorded
         let car = w.cars.items[i];
         let trip = trip_of(car);
         if is_trip(trip) {
-            let mut kind = LineKind::Linear;
-            let line = car.line as usize;
-            if line < 8 {
-                let l = w.lines.items[line];
-                kind = l.kind;
-            }
-            let mut leader = None;
-            if is_loop(kind) {
-                leader = leader_of(kind, &w.cars, i, car);
-            }
-            let result = landing(trip, kind, leader, car, &w.stops.items, dt);
             let number = i as u8;
-            let mut lamps = car.lamps;
-            if asks_work(trip, kind, result.arrived) {
-                let row = w.cars.items[i];
-                lamps = work_of(trip, &w.riders, row, &w.stops.items, number);
-            }
+            let kind = line_at(&w.lines.items, car.line).kind;
+            let leader = leader_of(kind, &w.cars, i, car);
+            let result = landing(trip, kind, leader, car, &w.stops.items, dt);
+            let lamps = if asks_work(trip, kind, result.arrived) {
+                work_of(trip, &w.riders, car, &w.stops.items, number)
+            } else {
+                car.lamps
+            };
             let moves = tell(
                 &mut log, number, trip, kind, car, result, lamps, &sort, &w.stops.items, stop_count,
             );
@@ -116,9 +109,7 @@ pub fn record(world: World, words: &[u32], log: &mut [u32]) -> Recorded
             w.total_moves = w.total_moves.wrapping_add(moves);
             w.reposition_distance = distance_by(trip, kind, w.reposition_distance, car, result);
             if result.arrived {
-                let row = w.cars.items[i];
-                let arrived = come(row, trip, lamps, w.ticks);
-                w.cars.items[i] = arrived;
+                w.cars.items[i] = come(w.cars.items[i], trip, lamps, w.ticks);
             }
         }
     }
@@ -129,10 +120,11 @@ pub fn record(world: World, words: &[u32], log: &mut [u32]) -> Recorded
         if has_turn(car) {
             let number = i as u8;
             let line = line_at(&w.lines.items, car.line);
-            let mut traversing = false;
-            if car.door_command_queue.count != 0 {
-                traversing = has_rider_traversing(&w.riders, number);
-            }
+            let traversing = if car.door_command_queue.count == 0 {
+                false
+            } else {
+                has_rider_traversing(&w.riders, number)
+            };
             let turned = door_turn(&mut log, number, car, line, traversing, &w.stops);
             w.cars.items[i] = turned.car;
             just_opened[i] = turned.opened;

@@ -1,27 +1,24 @@
--- `record::record` meets its contract: refusal 0 by the first loop, then what was read, then a tick by the two loops. Assumes nothing.
+-- `record::record` meets its contract: the refusals, what was read, and a tick by the two loops. Assumes nothing.
 use Rattle.std.proofs.Common.{◌≡◌, ℕ, ◌+◌, ◌≤◌, min, Bool, false, ◌||◌, List, sym, refl, ap, ◌∙◌, inl, inr, add-one, arith, rules}
-use mathlib.Core.Bool.{or_assoc, or-false}
 use lib.Ieee.{Float}
 use Rattle.log_writes.proofs.Telling.{told_none, told_also}
 use Rattle.log_writes.specs.declared.Log.{Log}
-use Rattle.sound_rows.specs.Rows.{any_to}
 use Rattle.sound.specs.Sound.{broken}
-use Rattle.sound.specs.Parts.{cars_broken, rest_broken}
-use Rattle.sound.proofs.Unbroken.{in_places}
 use Rattle.world.specs.World.{car_at}
 use Rattle.world.specs.Tables.{Stops}
 use Rattle.world.specs.declared.World.{World}
+use Rattle.world.specs.declared.Line.{Line}
 use Rattle.steps.specs.Steps.{Step, step_of, run_to}
 use Rattle.std.specs.declared.option.Option.{Option}
 use Rattle.steps.specs.declared.JustOpened.{JustOpened}
 use Rattle.laws.specs.Numbers.{plus}
 use Rattle.sorted.specs.Sorted.{sorted_table}
 use Rattle.doors_system.proofs.Running.{Runs, same, more, turn_on_lem, door_of_lem, passed, ended}
-use Rattle.movement_system.proofs.Moving.{Moves, stops_kept, cars_kept, calls_kept, cleared, doored_after, comes_in, goes_on_lem, stays}
+use Rattle.movement_system.proofs.Moving.{Moves, stops_kept, cars_kept, calls_kept, cleared, doored_after, looked, comes_in, goes_on_lem, stays}
 use Rattle.tick.specs.Tick.{ticked, tick_world, tick_words}
 use Rattle.record.proofs.Giving.{is_broken, is_whole, is_refused, is_made, is_changed, tick_refused, tick_taken_lem}
 use Rattle.record.proofs.record.Goals as goal
-use Rattle.record.proofs.record.Goals.{Else-broken, then-is_trip+then-result, then-is_trip+else-result, else-is_trip, then-line-lt8, else-line-lt8, then-is_loop, else-is_loop, then-asks_work, else-asks_work, then-has_turn, else-has_turn, then-car-ne0, else-car-ne0}
+use Rattle.record.proofs.record.Goals.{Else-broken, then-is_trip+then-result, then-is_trip+else-result, else-is_trip, then-asks_work, else-asks_work, then-has_turn, else-has_turn, then-car-eq0, else-car-eq0}
 
 -- ---- counts by another name
 
@@ -32,30 +29,13 @@ runs_at : {turn : World → ℕ → Step} {world w : World} {l l' : Log} {i j : 
     → Runs turn world l j w os l'
 runs_at k e = rw (← e) k
 
--- ---- refusal 0
-
--- what the first loop has found
-looked : (w : World) (cars i : ℕ) (rest found : Bool) → cars ≡ min w.cars.count 16 → i ≤ cars → cars ≤ i → rest ≡ rest_broken w → found ≡ (rest || cars_broken w i)
-    → broken w ≡ found
-looked w cars i rest found n h k r f = let e : i ≡ min w.cars.count 16 = omega arith in in_places w rest (sym r) ∙ sym (rw e at f)
+-- ---- refusals
 
 whole : (c : Else-broken) → broken c.args.world ≡ false
-whole c =
-    looked c.args.world _ c.loop-i.i _ _ c.min-cars.ensures c.loop-i.invariant.0 c.loop-i-test.false c.rest_broken-broken.ensures c.loop-i.invariant.1 ∙ c.if-broken.false
-
-pub loop-i-init : goal.loop-i-init
-unfolding any_to
-loop-i-init c = (search rules, sym (or-false _))
-
-pub loop-i-preserved : goal.loop-i-preserved
-unfolding any_to
-loop-i-preserved c =
-    (omega (arith, c.loop-i-test.true), rw (add-one, c.loop-i.invariant.1, c.car_broken-broken.ensures) (or_assoc c.rest_broken-broken.result _ _))
+whole c = sym c.broken.ensures ∙ c.if-broken.false
 
 pub returns-then-broken : goal.returns-then-broken
-returns-then-broken c = is_broken c.args.world _ _ (looked c.args.world _ c.loop-i.i _ _ c.min-cars.ensures c.loop-i.invariant.0 c.loop-i-test.false c.rest_broken-broken.ensures c.loop-i.invariant.1 ∙ c.if-broken.true) c.refused.ensures
-
--- ---- what was read
+returns-then-broken c = is_broken c.args.world _ _ (sym c.broken.ensures ∙ c.if-broken.true) c.refused.ensures
 
 pub returns-in-Err : goal.returns-in-Err
 returns-in-Err c =
@@ -76,66 +56,67 @@ returns-in-Err-taken c =
 
 -- ---- the moves
 
-pub loop-i-2-init : goal.loop-i-2-init
+pub loop-i-init : goal.loop-i-init
 unfolding run_to
-loop-i-2-init c = (search rules, record { left = refl; told = told_none }, search rules)
+loop-i-init c = (search rules, record { left = refl; told = told_none }, search rules)
 
-pub loop-i-2-preserved : goal.loop-i-2-preserved
+pub loop-i-preserved : goal.loop-i-preserved
 unfolding plus
-loop-i-2-preserved c =
-    let s = c.loop-i-2 in
-    let n = min c.args.world.stops.count 64 in
-    let order : c.sorted_stops-sort.result ≡ sorted_table s.w.stops.items n =
-    c.sorted_stops-sort.ensures ∙ ap (λ (stops : Stops). sorted_table stops.items n) (sym (stops_kept s.invariant.1)) in
+loop-i-preserved c =
+    let s = c.loop-i in
+    let so_far : s.i + 1 ≤ c.min-cars.result = omega (arith, c.loop-i-test.true) in
+    let order : c.sorted_stops-sort.result ≡ sorted_table s.w.stops.items (min c.args.world.stops.count 64) =
+    c.sorted_stops-sort.ensures ∙ ap (λ (stops : Stops). sorted_table stops.items (min c.args.world.stops.count 64)) (sym (stops_kept s.invariant.1)) in
     let trip = c.trip_of-trip in
-    let so_far : s.i + 1 ≤ c.min-cars.result = omega (arith, c.loop-i-2-test.true) in
     elim c.if-is_trip.branch [
-      | then-is_trip+then-result u ↦ (
+      | then-is_trip+then-result u ↦
+          let look =
+              looked c.in-Ok-Tick.dt s.w s.i trip.result _ u.leader_of-leader.result u.landing-result.result u.if-asks_work.lamps trip.ensures
+              (rw c.is_trip.ensures at u.if-is_trip.true) (ap (λ (l : Line). l.kind) u.line_at-kind.ensures) u.leader_of-leader.ensures u.landing-result.ensures
+              (elim u.if-asks_work.branch [
+                | then-asks_work z ↦ inr (rw u.asks_work.ensures at z.if-asks_work.true, z.lamps-is ∙ z.work_of-lamps.ensures)
+                | else-asks_work z ↦ inl (rw u.asks_work.ensures at z.if-asks_work.false, z.lamps-is)
+              ]) in (
+            so_far,
+            comes_in c.in-Ok-Tick.dt _ s.w c.if-is_trip.w _ s.log _ c.if-is_trip.log s.i trip.result _ u.landing-result.result u.if-asks_work.lamps s.w.stops u.tell-moves.result _ _ u.distance_by.result u.come.result s.invariant.1 look
+            (u.tell-moves.ensures order) refl refl u.distance_by.ensures u.if-result.true u.come.ensures u.w-is u.log-is,
+            s.invariant.2,
+          )
+      | then-is_trip+else-result u ↦
+          let look =
+              looked c.in-Ok-Tick.dt s.w s.i trip.result _ u.leader_of-leader.result u.landing-result.result u.if-asks_work.lamps trip.ensures
+              (rw c.is_trip.ensures at u.if-is_trip.true) (ap (λ (l : Line). l.kind) u.line_at-kind.ensures) u.leader_of-leader.ensures u.landing-result.ensures
+              (elim u.if-asks_work.branch [
+                | then-asks_work z ↦ inr (rw u.asks_work.ensures at z.if-asks_work.true, z.lamps-is ∙ z.work_of-lamps.ensures)
+                | else-asks_work z ↦ inl (rw u.asks_work.ensures at z.if-asks_work.false, z.lamps-is)
+              ]) in (
+            so_far,
+            goes_on_lem c.in-Ok-Tick.dt _ s.w c.if-is_trip.w _ s.log _ c.if-is_trip.log s.i trip.result _ u.landing-result.result u.if-asks_work.lamps s.w.stops u.tell-moves.result _ _ u.distance_by.result s.invariant.1 look (stops_kept s.invariant.1)
+            (u.tell-moves.ensures order) refl refl u.distance_by.ensures u.if-result.false u.w-is u.log-is,
+            s.invariant.2,
+          )
+      | else-is_trip u ↦ (
         so_far,
-        comes_in (c.in-Ok-Tick.dt) _ s.w c.if-is_trip.w _ s.log _ c.if-is_trip.log s.i n trip.result u.if-line-lt8.kind u.if-is_loop.leader u.landing-result.result u.if-asks_work.lamps u.tell-moves.result _ _ u.distance_by.result u.come-arrived.result s.invariant.1 refl trip.ensures (rw c.is_trip.ensures at u.if-is_trip.true)
-            (elim u.if-line-lt8.branch [ then-line-lt8 z ↦ inl (z.if-line-lt8.true, z.kind-is) | else-line-lt8 z ↦ inr (z.if-line-lt8.false, z.kind-is) ])
-            (elim u.if-is_loop.branch [ then-is_loop z ↦ inr (z.leader-is ∙ z.leader_of-leader.ensures) | else-is_loop z ↦ inl (rw u.is_loop.ensures at z.if-is_loop.false) ])
-            u.landing-result.ensures
-            (elim u.if-asks_work.branch [
-              | then-asks_work z ↦ inr (rw u.asks_work.ensures at z.if-asks_work.true, z.lamps-is ∙ z.work_of-lamps.ensures)
-              | else-asks_work z ↦ inl (rw u.asks_work.ensures at z.if-asks_work.false, z.lamps-is)
-            ])
-            (u.tell-moves.ensures order) refl refl u.distance_by.ensures
-            u.if-result.true u.come-arrived.ensures u.w-is u.log-is,
+        stays c.in-Ok-Tick.dt _ s.w c.if-is_trip.w _ s.log c.if-is_trip.log s.i trip.result s.invariant.1 trip.ensures (rw c.is_trip.ensures at u.if-is_trip.false) u.w-is u.log-is,
         s.invariant.2,
       )
-      | then-is_trip+else-result u ↦ (
-        so_far,
-        goes_on_lem (c.in-Ok-Tick.dt) _ s.w c.if-is_trip.w _ s.log _ c.if-is_trip.log s.i n trip.result u.if-line-lt8.kind u.if-is_loop.leader u.landing-result.result u.if-asks_work.lamps u.tell-moves.result _ _ u.distance_by.result s.invariant.1 refl trip.ensures (rw c.is_trip.ensures at u.if-is_trip.true)
-            (elim u.if-line-lt8.branch [ then-line-lt8 z ↦ inl (z.if-line-lt8.true, z.kind-is) | else-line-lt8 z ↦ inr (z.if-line-lt8.false, z.kind-is) ])
-            (elim u.if-is_loop.branch [ then-is_loop z ↦ inr (z.leader-is ∙ z.leader_of-leader.ensures) | else-is_loop z ↦ inl (rw u.is_loop.ensures at z.if-is_loop.false) ])
-            u.landing-result.ensures
-            (elim u.if-asks_work.branch [
-              | then-asks_work z ↦ inr (rw u.asks_work.ensures at z.if-asks_work.true, z.lamps-is ∙ z.work_of-lamps.ensures)
-              | else-asks_work z ↦ inl (rw u.asks_work.ensures at z.if-asks_work.false, z.lamps-is)
-            ])
-            (u.tell-moves.ensures order) refl refl u.distance_by.ensures
-            u.if-result.false u.w-is u.log-is,
-        s.invariant.2,
-      )
-      | else-is_trip u ↦ (so_far, stays c.in-Ok-Tick.dt _ s.w c.if-is_trip.w _ s.log c.if-is_trip.log s.i trip.result s.invariant.1 trip.ensures (rw c.is_trip.ensures at u.if-is_trip.false) u.w-is u.log-is, s.invariant.2)
     ]
 
 -- ---- the doors
 
-pub loop-i-3-init : goal.loop-i-3-init
+pub loop-i-2-init : goal.loop-i-2-init
 unfolding run_to
-loop-i-3-init c = (search rules, record { left = refl; opens = refl; told = told_none }, c.loop-i-2.invariant.2)
+loop-i-2-init c = (search rules, record { left = refl; opens = refl; told = told_none }, c.loop-i.invariant.2)
 
-pub loop-i-3-preserved : goal.loop-i-3-preserved
-loop-i-3-preserved c =
-    let w = c.loop-i-3 in
-    let test = c.loop-i-3-test.true in (
+pub loop-i-2-preserved : goal.loop-i-2-preserved
+loop-i-2-preserved c =
+    let w = c.loop-i-2 in
+    let test = c.loop-i-2-test.true in (
       omega (arith, test),
       elim c.if-has_turn.branch [
         | then-has_turn u ↦
             let t = u.door_turn-turned in
-            let h = turn_on_lem w.w w.i (car_at w.w.cars.items w.i) _ _ u.line_at-line.ensures (elim u.if-car-ne0.branch [ then-car-ne0 v ↦ inr (v.traversing-is ∙ v.has_rider_traversing-traversing.ensures) | else-car-ne0 v ↦ inl v.if-car-ne0.false ]) t.ensures in
+            let h = turn_on_lem w.w w.i (car_at w.w.cars.items w.i) _ _ u.line_at-line.ensures (elim u.if-car-eq0.branch [ then-car-eq0 v ↦ inl v.if-car-eq0.true | else-car-eq0 v ↦ inr (v.traversing-is ∙ v.has_rider_traversing-traversing.ensures) ]) t.ensures in
             same (more (step_of w.w t.result.car _ t.result.opened) w.invariant.1 (door_of_lem w.w w.i h) h.told) u.log-is u.w-is u.just_opened-is
         | else-has_turn u ↦ same (passed w.invariant.1 (omega (arith, test, w.invariant.2)) (sym c.has_turn.ensures ∙ u.if-has_turn.false)) u.log-is u.w-is u.just_opened-is
       ],
@@ -147,13 +128,13 @@ loop-i-3-preserved c =
 pub returns : goal.returns
 unfolding tick_world tick_words plus
 returns c =
-    let s = c.loop-i-2 in
-    let t = c.loop-i-3 in
+    let s = c.loop-i in
+    let t = c.loop-i-2 in
     let w = c.args.world in
     let n = c.min-cars.ensures in
-    let e : min w.cars.count 16 ≡ s.i = omega (arith, n, c.loop-i-2-test.false, s.invariant.0) in
+    let e : min w.cars.count 16 ≡ s.i = omega (arith, n, c.loop-i-test.false, s.invariant.0) in
     let k = moves_at s.invariant.1 (sym e) in
-    let f : t.i ≡ min s.w.cars.count 16 = omega (arith, n, c.loop-i-3-test.false, t.invariant.0, cars_kept k) in
+    let f : t.i ≡ min s.w.cars.count 16 = omega (arith, n, c.loop-i-2-test.false, t.invariant.0, cars_kept k) in
     let d : min c.min-cars.result 16 ≡ min s.w.cars.count 16 = omega (arith, n, cars_kept k) in
     let r = ended (runs_at t.invariant.1 f) (cleared t.just_opened (calls_kept t.invariant.1) d c.clear_hall_calls-calls.ensures) in
     let x = doored_after c.in-Ok-Tick.dt w k r.0 r.1 in

@@ -1,20 +1,15 @@
 -- What the loops keep.
-use Rattle.std.proofs.Common.{◌≡◌, ◌≤◌, ◌||◌}
-use Rattle.sound.specs.Parts.{cars_broken}
+use Rattle.std.proofs.Common.{◌≡◌, ◌≤◌}
 use Rattle.doors_system.specs.Doors.{door_of}
 use Rattle.doors_system.proofs.Running.{Runs}
 use Rattle.movement_system.specs.Movement.{move_of}
 use Rattle.movement_system.proofs.Moving.{Moves}
 use Rattle.record.proofs.record.Given as goal
 
--- refusal 0, car by car
-abbrev pub invariant-loop-i : goal.invariant-loop-i
-invariant-loop-i l = (l.i ≤ l.cars) × (l.broken ≡ (l.initial.broken || cars_broken l.w l.i))
-
 -- the cars' moves
-abbrev pub invariant-loop-i-2 : goal.invariant-loop-i-2
-invariant-loop-i-2 l = (l.i ≤ l.cars) × Moves (move_of l.dt) l.initial.w l.initial.log l.i l.w l.log × (l.cars ≤ 16)
+abbrev pub invariant-loop-i : goal.invariant-loop-i
+invariant-loop-i l = (l.i ≤ l.cars) × Moves (move_of l.dt) l.initial.w l.initial.log l.i l.w l.log × (l.cars ≤ 16)
 
 -- the doors, from where the moves ended
-abbrev pub invariant-loop-i-3 : goal.invariant-loop-i-3
-invariant-loop-i-3 l = (l.i ≤ l.cars) × Runs door_of l.initial.w l.initial.log l.i l.w l.just_opened l.log × (l.cars ≤ 16)
+abbrev pub invariant-loop-i-2 : goal.invariant-loop-i-2
+invariant-loop-i-2 l = (l.i ≤ l.cars) × Runs door_of l.initial.w l.initial.log l.i l.w l.just_opened l.log × (l.cars ≤ 16)
