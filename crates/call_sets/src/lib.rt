@@ -26,7 +26,7 @@ pub fn pressed(calls: u64, stop: u8) -> u64
 }
 
 // The calls without one at the stop.
-// Stays: beside `pressed`: the two differ in an operator.
+// Stays: beside `pressed`: one function of both would take the operator, or the mask turned round, as a parameter: longer than the two.
 #[tactic(auto, using(crate::proofs::Bits::clear_bit, crate::proofs::Bits::no_bit), unfolding(crate::specs::Calls::cleared))]
 pub fn cleared(calls: u64, stop: u8) -> u64
     ensures { result ≡ Calls.cleared calls stop }

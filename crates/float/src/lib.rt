@@ -40,8 +40,7 @@ pub fn signum(x: f64) -> f64
 pub fn is_finite(x: f64) -> bool
     ensures { result ≡ Float.is_finite x }
 {
-    let infinity = 1.0 / 0.0;
-    (-infinity < x) & (x < infinity)
+    (f64::NEG_INFINITY < x) & (x < f64::INFINITY)
 }
 
 // f64::max
@@ -72,7 +71,7 @@ pub fn clamp(x: f64, min: f64, max: f64) -> f64
 }
 
 // f64::rem_euclid
-// Stays: the library's is by `%`.
+// Stays: the library's is by `%`, which compiled code takes from the C library as fmod@GLIBC_2.38: a machine with an older one runs no program of ours.
 #[tactic(auto, unfolding(crate::specs::Float::rem_euclid))]
 pub fn rem_euclid(x: f64, rhs: f64) -> f64
     ensures { result ≡ Float.rem_euclid x rhs }

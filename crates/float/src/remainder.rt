@@ -35,6 +35,6 @@ pub fn remainder(x: f64, y: f64) -> f64
         let r = reduced(a, b);
         if x < 0.0 { -r } else { r }
     } else {
-        0.0 / 0.0
+        f64::NAN
     }
 }

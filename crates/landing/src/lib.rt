@@ -35,10 +35,9 @@ fn effective_target(
 ) -> f64
     ensures { result ≡ Landing.effective_target leader pos target headway circumference }
 {
-    match leader {
-        None => target,
-        Some(lp) => headway_clamp_target(pos, lp, target, headway, circumference),
-    }
+    leader.map_or(target, |lp| {
+        headway_clamp_target(pos, lp, target, headway, circumference)
+    })
 }
 
 // run, `result`.

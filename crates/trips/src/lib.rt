@@ -29,15 +29,6 @@ fn trip_by(phase: ElevatorPhase) -> Trip
     }
 }
 
-fn trip_in(mode: ServiceMode, phase: ElevatorPhase) -> Trip
-    ensures { result ≡ Trips.trip_in mode phase }
-{
-    match mode {
-        ServiceMode::Manual => Trip::Drives,
-        _ => trip_by(phase),
-    }
-}
-
 // run's first tests.
 pub fn trip_of(car: Car) -> Trip
     ensures { result ≡ Trips.trip_of car }
@@ -45,7 +36,10 @@ pub fn trip_of(car: Car) -> Trip
     if !car.enabled {
         return Trip::Rests;
     }
-    trip_in(car.service_mode, car.phase)
+    if car.service_mode == ServiceMode::Manual {
+        return Trip::Drives;
+    }
+    trip_by(car.phase)
 }
 
 pub fn is_trip(trip: Trip) -> bool

@@ -3,8 +3,8 @@ ghost use Rattle.std.specs.Prelude.{◌≡◌};
 ghost use Rattle.world.specs.World.{new_car, empty_car, empty_world};
 
 use crate::{
-    Car, CarPlan, ElevatorPhase, Lamps, Line, LineKind, Motion, Rider, RiderPhase, Serves,
-    ServiceMode, Table, World,
+    Car, CarPlan, ElevatorPhase, Lamps, Line, LineKind, Rider, RiderPhase, Serves, ServiceMode,
+    Table, World,
 };
 use door::{DoorCommand, DoorState};
 
@@ -35,24 +35,10 @@ pub fn new_car(plan: CarPlan) -> Car
 }
 
 // What stands in a car's place before it is loaded.
-// Stays: with a derived Default the zeros would stand in no line that a reader sees.
 fn empty_car() -> Car
     ensures { result ≡ empty_car }
 {
-    let motion = Motion {
-        position: 0.0,
-        velocity: 0.0,
-        max_speed: 0.0,
-        acceleration: 0.0,
-        deceleration: 0.0,
-        inspection_speed_factor: 0.0,
-    };
-    new_car(CarPlan {
-        line: 0,
-        motion,
-        door_transition_ticks: 0,
-        door_open_ticks: 0,
-    })
+    new_car(CarPlan::default())
 }
 
 // Nothing loaded or queued, no hall call, no start, no tick made and every counter 0.

@@ -84,7 +84,7 @@ pub struct Line {
 }
 
 // Position and velocity of a car, and what limits them.
-#[derive(Clone, Copy)]
+#[derive(Clone, Copy, Default)]
 pub struct Motion {
     pub position: f64,
     pub velocity: f64,
@@ -117,7 +117,7 @@ pub enum ServiceMode {
 }
 
 // What a car's record says of it: its line, its motion and its door's times.
-#[derive(Clone, Copy)]
+#[derive(Clone, Copy, Default)]
 pub struct CarPlan {
     pub line: u8,
     pub motion: Motion,
