@@ -6,14 +6,18 @@ use Rattle.world.specs.Refusal.{Check, check, unless}
 use Rattle.world.specs.declared.World.{World}
 use Rattle.world.specs.declared.refusal.Refusal.{Refusal}
 use Rattle.world.specs.declared.refusal.Refusal.TheVariants.{NotNow}
-use Rattle.changes.specs.declared.Changed.{Changed}
+use Rattle.changes.specs.declared.Answered.{Answered}
+
+-- what a record that is no tick gives
+abbrev pub Changed : Type 0
+Changed = Answered (Unit {0})
 
 -- the world unchanged
-abbrev pub refused : World → Refusal → Changed
-refused w r = record { taken = Err r; world = w }
+abbrev pub refused : {A : Type 0} → World → Refusal → Answered A
+refused w r = record { answer = Err r; world = w }
 
 abbrev pub accepted : World → Changed
-accepted w = record { taken = Ok tt; world = w }
+accepted w = record { answer = Ok tt; world = w }
 
 -- 7: a number that is not the next unused one of a table of that size; a full table has none
 abbrev pub not_next : ℕ → ℕ → ℕ → Bool

@@ -6,9 +6,8 @@ use Rattle.world.specs.Refusal.{Check, check, unless}
 use Rattle.world.specs.declared.World.{World}
 use Rattle.world.specs.declared.Car.{Car}
 use Rattle.world.specs.declared.refusal.Refusal.TheVariants.{NotNow, NotLoaded}
-use Rattle.changes.specs.declared.Changed.{Changed}
 use Rattle.world.specs.declared.refusal.Refusal.{Refusal}
-use Rattle.changes.specs.Changes.{refused, accepted, no_such_car}
+use Rattle.changes.specs.Changes.{Changed, refused, accepted, no_such_car}
 
 -- a car's row; past the table, that of car 0
 unfoldable pub row_of : World → ℕ → Car

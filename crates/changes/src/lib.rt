@@ -10,19 +10,22 @@ use sound_rows::unloaded;
 use world::refusal::Refusal;
 use world::{Car, World};
 
-// What the state says of a record, and the world after it: on a refusal the one that was given.
+// An answer, and the world after it: on a refusal the one that was given.
 #[derive(Clone, Copy)]
-pub struct Changed {
-    pub taken: Result<(), Refusal>,
+pub struct Answered<T> {
+    pub answer: Result<T, Refusal>,
     pub world: World,
 }
 
+// What the state says of a record, and the world after it.
+pub type Changed = Answered<()>;
+
 // A refusal: the world is the one that was given.
-pub fn refused(world: World, refusal: Refusal) -> Changed
+pub fn refused<T>(world: World, refusal: Refusal) -> Answered<T>
     ensures { result ≡ Changes.refused world refusal }
 {
-    Changed {
-        taken: Err(refusal),
+    Answered {
+        answer: Err(refusal),
         world,
     }
 }
@@ -31,8 +34,8 @@ pub fn refused(world: World, refusal: Refusal) -> Changed
 pub fn accepted(world: World) -> Changed
     ensures { result ≡ Changes.accepted world }
 {
-    Changed {
-        taken: Ok(()),
+    Answered {
+        answer: Ok(()),
         world,
     }
 }

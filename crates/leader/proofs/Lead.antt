@@ -7,6 +7,7 @@ use Prim.Native.Nat.{ℕ, zero, suc, ◌+◌, ◌<◌, ◌≤◌, min}
 use native.Mathlib.Nat.{eq-or-lt_of_le, le_of_suc-le-suc}
 use native.Mathlib.Numerals.{add-one}
 use native.Mathlib.Omega.{arith}
+use Rattle.std.proofs.lemmas.List.{get_or-take}
 use lib.Dec.{eqb}
 use lib.Ieee.{Float}
 use borrow.Author.Tests.{eqb-true, eqb-false, eq-eqb, ne_eqb, not-true}
@@ -65,7 +66,7 @@ module _ {cars : List Car} {pos circumference : Float} where
     passed t = rw (add-one, t) h
 
 -- one turn of the search
-pub ruleset turn_of = (none_yet, taken, kept, passed, pos_held)
+pub ruleset turn_of = (none_yet, taken, kept, passed, pos_held, get_or-take)
 
 -- ---- the claim
 

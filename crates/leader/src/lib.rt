@@ -40,9 +40,8 @@ pub fn loop_leader_pos(
     let mut found = false;
     let mut nearest: f64 = 0.0;
     let mut position: f64 = 0.0;
-    for i in 0..n {
-        let car = cars.items[i];
-        if is_other(car, me, line, i) {
+    for (i, car) in cars.items[..n].iter().enumerate() {
+        if is_other(*car, me, line, i) {
             let distance = forward_distance(pos, car.motion.position, circumference);
             if is_nearer(found, nearest, distance) {
                 found = true;

@@ -10,8 +10,7 @@ use Rattle.world.specs.declared.LineKind.{LineKind}
 use Rattle.world.specs.declared.CarPlan.{CarPlan}
 use Rattle.world.specs.declared.Rider.{Rider}
 use Rattle.world.specs.declared.refusal.Refusal.TheVariants.{NotNow, NotNext, NotLoaded}
-use Rattle.changes.specs.declared.Changed.{Changed}
-use Rattle.changes.specs.Changes.{refused, accepted, not_next}
+use Rattle.changes.specs.Changes.{Changed, refused, accepted, not_next}
 use Rattle.world.specs.Tables.{with_item}
 
 -- 1 line

@@ -31,8 +31,8 @@ pub fn find_stop_at_position(stops: &Stops, position: f64) -> Option<u8>
     ensures { result ≡ find_stop_at_position stops.now position }
 {
     let n = stops.count.min(64);
-    for s in 0..n {
-        if stands_at(stops.items[s], position) {
+    for (s, stop) in stops.items[..n].iter().enumerate() {
+        if stands_at(*stop, position) {
             return Some(s as u8);
         }
     }
@@ -40,8 +40,9 @@ pub fn find_stop_at_position(stops: &Stops, position: f64) -> Option<u8>
 }
 
 // world.rs, find_stop_at_position_in
+// Stays: beside the look-up above, as in the Rust. One function of both would take the candidates, all numbers or a list's, as a type parameter with a
+// contract of its own, to share a loop of three lines.
 #[tactic(auto, using(crate::proofs::Standing::standing), unfolding(crate::specs::Stops::find_stop_at_position_in))]
-// Stays: beside the look-up above, as in the Rust: that one tries all numbers, this one a list of them.
 pub fn find_stop_at_position_in(
     stops: &[f64; 64],
     position: f64,

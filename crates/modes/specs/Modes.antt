@@ -7,9 +7,8 @@ use Rattle.world.specs.declared.Car.{Car}
 use Rattle.world.specs.declared.ServiceMode.{ServiceMode}
 use Rattle.std.specs.declared.option.Option.{Option}
 use Rattle.world.specs.declared.refusal.Refusal.TheVariants.{NotNow, NotLoaded}
-use Rattle.changes.specs.declared.Changed.{Changed}
 use Rattle.world.specs.Refusal.{Check, check, unless}
-use Rattle.changes.specs.Changes.{refused, accepted, no_such_car}
+use Rattle.changes.specs.Changes.{Changed, refused, accepted, no_such_car}
 
 -- the checks of an order to a car that needs nothing but the car: kinds 6, 7 and B
 abbrev pub order_checks : World → ℕ → List Check

@@ -9,9 +9,8 @@ use Rattle.world.specs.declared.ElevatorPhase.{ElevatorPhase}
 use Rattle.world.specs.declared.ElevatorPhase.TheVariants.{Idle, MovingToStop, Repositioning, DoorOpening, Loading, DoorClosing, Stopped}
 use Rattle.std.specs.declared.option.Option.TheVariants.{Some}
 use Rattle.world.specs.declared.refusal.Refusal.TheVariants.{NotNow, NotLoaded, CannotGo}
-use Rattle.changes.specs.declared.Changed.{Changed}
 use Rattle.world.specs.Refusal.{Check, check, unless}
-use Rattle.changes.specs.Changes.{refused, accepted, no_such_car}
+use Rattle.changes.specs.Changes.{Changed, refused, accepted, no_such_car}
 
 -- whether a car may be sent: Idle or Stopped
 abbrev pub can_go : ElevatorPhase → Bool

@@ -9,16 +9,20 @@ use Rattle.world.specs.declared.refusal.Refusal.TheVariants.{BrokenWorld}
 use Rattle.tape.specs.Tape.{decoded}
 use Rattle.tape_records.specs.declared.Read.{Read}
 use Rattle.tape_records.specs.declared.Read.TheVariants as Read
-use Rattle.changes.specs.declared.Changed.{Changed}
+use Rattle.changes.specs.Changes.{Changed}
 use Rattle.record_kinds.specs.Kinds.{change_by, tick_checks}
 use Rattle.tick.specs.Tick.{tick_world, tick_words}
-use Rattle.record.specs.declared.Recorded.{Recorded}
+use Rattle.changes.specs.declared.Answered.{Answered}
 use Rattle.record.specs.declared.Accepted.{Accepted}
 
 -- ---- the answer: the certificate's "an accepted record or one numbered refusal"; refusal_number of `world` gives the numbers
 
 abbrev pub Answer : Type 0
 Answer = Result Accepted Refusal
+
+-- what the code of a call gives
+abbrev pub Recorded : Type 0
+Recorded = Answered Accepted
 
 abbrev pub is_accepted : Answer → Bool
 is_accepted (Ok a) = true
@@ -61,7 +65,7 @@ answer_of (Ok t) used = Ok (record { used = used; written = 0 })
 answer_of (Err r) used = Err r
 
 abbrev pub changed : List ℕ → ℕ → Changed → Outcome
-changed log used c = record { answer = answer_of c.taken used; world = c.world; log = log }
+changed log used c = record { answer = answer_of c.answer used; world = c.world; log = log }
 
 -- ---- C tick: "A tick writes its words from the log's start; later words stay."
 

@@ -1,11 +1,11 @@
 // The record call: one record of a tape, checked in the paper's order and done. What knows no loop is in record_kinds.
 #![tactic(auto)]
 
-ghost use Rattle.std.specs.Prelude.{◌≡◌, Err};
+ghost use Rattle.std.specs.Prelude.{◌≡◌};
 ghost use Rattle.record.specs.Record as Call;
 
 use arrival::{asks_work, work_of};
-use changes::Changed;
+use changes::{Answered, Changed, refused};
 use door_commands::has_rider_traversing;
 use doors_system::{door_turn, has_turn};
 use hall_calls::clear_hall_calls;
@@ -35,29 +35,15 @@ pub struct Accepted {
 pub type Answer = Result<Accepted, Refusal>;
 
 // The answer, and the world after the call: on a refusal the one that was given.
-#[derive(Clone, Copy)]
-pub struct Recorded {
-    pub answer: Answer,
-    pub world: World,
-}
-
-fn refused(world: World, refusal: Refusal) -> Recorded
-    ensures { (result.answer ≡ Err refusal) × (result.world ≡ world) }
-{
-    Recorded {
-        answer: Err(refusal),
-        world,
-    }
-}
+pub type Recorded = Answered<Accepted>;
 
 // What a record gives that writes no word.
 fn answered(changed: Changed, used: usize) -> Recorded
-    ensures { (result.answer ≡ Call.answer_of changed.taken used) × (result.world ≡ changed.world) }
+    ensures { (result.answer ≡ Call.answer_of changed.answer used) × (result.world ≡ changed.world) }
 {
-    let world = changed.world;
-    Recorded {
-        answer: changed.taken.map(|()| Accepted { used, written: 0 }),
-        world,
+    Answered {
+        answer: changed.answer.map(|()| Accepted { used, written: 0 }),
+        world: changed.world,
     }
 }
 
@@ -134,7 +120,7 @@ pub fn record(world: World, words: &[u32], log: &mut [u32]) -> Recorded
     w.up_calls = calls.up;
     w.down_calls = calls.down;
     w.ticks = w.ticks.wrapping_add(1);
-    Recorded {
+    Answered {
         answer: Ok(Accepted {
             used: words_used,
             written: log.at,

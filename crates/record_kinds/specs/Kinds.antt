@@ -6,8 +6,7 @@ use Rattle.world.specs.declared.refusal.Refusal.TheVariants.{NotNow, LastTick, L
 use Rattle.tape_records.specs.declared.Record.{Record}
 use Rattle.tape_records.specs.declared.Record.TheVariants.{Line, Stop, Car, Rider, Send, Mode, ManualSpeed, DoorCommand, HallCall, Destination, Enable, Start}
 use Rattle.loads.specs.Loads.{load_line, load_stop, load_car, load_rider}
-use Rattle.changes.specs.Changes.{start}
-use Rattle.changes.specs.declared.Changed.{Changed}
+use Rattle.changes.specs.Changes.{Changed, start}
 use Rattle.world.specs.declared.refusal.Refusal.{Refusal}
 use Rattle.orders.specs.Orders.{send}
 use Rattle.modes.specs.Modes.{set_mode, set_manual_speed, set_enabled}

@@ -9,9 +9,8 @@ use Rattle.call_sets.specs.Calls.{pressed}
 use Rattle.world.specs.declared.World.{World}
 use Rattle.world.specs.declared.Car.{Car}
 use Rattle.world.specs.declared.refusal.Refusal.TheVariants.{NotNow, NotLoaded, QueueFull}
-use Rattle.changes.specs.declared.Changed.{Changed}
 use Rattle.world.specs.Refusal.{Check, check, unless}
-use Rattle.changes.specs.Changes.{refused, accepted, no_such_car}
+use Rattle.changes.specs.Changes.{Changed, refused, accepted, no_such_car}
 
 -- 8 door command, appended to the car's door queue
 abbrev pub commanded : Car → DoorCommand → Car
