@@ -1,5 +1,5 @@
 // The stops of a world in the order of their sort: movement.rs looks up in it which stops a range has.
-ghost use Rattle.std.specs.Prelude.{◌≡◌, ◌≤◌, max};
+ghost use Rattle.std.specs.Prelude.{◌≡◌};
 ghost use Rattle.movement_system.specs.Passing as Passing;
 ghost use Rattle.movement_system.specs.Parts.{order_of};
 
@@ -37,7 +37,7 @@ impl SortedStops {
         }
     }
 
-    // sorted.0
+    // The sort itself: sorted.0.
     fn sorted(&self) -> &[u8]
         ensures { result.now ≡ order_of self.now }
     {
@@ -51,9 +51,10 @@ impl SortedStops {
         self.sorted().partition_point(|stop| stop_position(&self.stops.items, *stop) <= threshold)
     }
 
+    // sorted.0[start..end]: the stops above the first threshold and below the second.
+    // Stays: the end is looked for one by one, since few stops are passed. By partition_point a tick of 16 cars takes 370 to 1,500 instructions more.
     #[tactic(auto, using(crate::proofs::Emitting::start_within))]
-    // sorted.0[start..end]: the stops past the first threshold and below the second. Few are passed in a tick, so the second end is looked for one by one.
-    pub fn between(&self, from: f64, to: f64) -> &[u8]
+    pub(crate) fn between(&self, from: f64, to: f64) -> &[u8]
         ensures { result.now ≡ Passing.between (order_of self.now) (Passing.start_of self.now.items (order_of self.now) from) (Passing.end_of self.now.items (order_of self.now) to) }
     {
         let rest = &self.sorted()[self.count_up_to(from)..];

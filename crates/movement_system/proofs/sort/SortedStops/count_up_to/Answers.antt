@@ -1,7 +1,7 @@
 -- `movement_system::sort::SortedStops::count_up_to` meets its contract. Assumes nothing.
 use Rattle.std.proofs.Common.{rules, ℕ, min}
 use lib.Ieee.{le}
-use Rattle.std.proofs.lemmas.Fn.{always_returns_same}
+use Rattle.std.proofs.lemmas.List.Sorted.{IsPartitionPoint-from_clause}
 use Rattle.world.specs.World.{stop_at}
 use Rattle.sorted.specs.Sorted.{sorted_stops}
 use Rattle.movement_system.specs.Passing.{start_of}
@@ -11,11 +11,9 @@ use Rattle.movement_system.proofs.sort.SortedStops.count_up_to.Goals as goal
 pub returns : goal.returns
 unfolding start_of
 returns c =
-    let a = c.args in
-    let is = λ (s : ℕ). le (stop_at a.self.now.items s) a.threshold in
-    let n = min a.self.now.count 64 in
-    let xs = sorted_stops a.self.now.items n in
-    let split = start_split a.self.now.items n a.threshold in
+    let v = c.args.self.now in
+    let is = λ (s : ℕ). le (stop_at v.items s) c.args.threshold in
+    let xs = sorted_stops v.items (min v.count 64) in
+    let split = start_split v.items (min v.count 64) c.args.threshold in
     let p = rw c.sorted.ensures at c.partition_point.ensures in
-    let h = p.partitioned is (always_returns_same _ _ _ (λ s r t k. search rules)) (parted is xs split) in
-    point_is_count is xs split c.partition_point.result p.bound h.0 h.1
+    point_is_count is xs split _ p.bound (IsPartitionPoint-from_clause is xs _ p.partitioned (parted is xs split) (λ s r f k. search rules))
