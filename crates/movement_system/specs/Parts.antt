@@ -1,30 +1,22 @@
--- Parts of the code, cited within the library alone, on which the promise of `record` does not rest: what a car tells and its moves (proofs/Moving.antt has that they are the turn's), a span's ranges (proofs/Emitting.antt).
-use Rattle.std.specs.Prelude.{◌≡◌, false, true, cond, List, ℕ, eqb, length, Float}
+-- Parts of the code, cited within the library alone, on which the promise of `record` does not rest: what a car tells and its moves (proofs/Moving.antt has that they are the turn's), the order of a world's stops.
+use Rattle.std.specs.Prelude.{◌≡◌, cond, List, ℕ, min, length, Float}
 use Rattle.motion.specs.declared.movement.MovementResult.{MovementResult}
 use Rattle.world.specs.declared.Car.{Car}
 use Rattle.world.specs.declared.LineKind.{LineKind}
 use Rattle.log_writes.specs.Told.{Told}
 use Rattle.log_writes.specs.declared.Log.{Log}
 use Rattle.world.specs.declared.Lamps.{Lamps}
-use Rattle.float.specs.Float as Float
+use Rattle.world.specs.Tables.{Stops}
+use Rattle.sorted.specs.Sorted.{sorted_stops}
 use Rattle.trips.specs.Spans.{moving_up}
-use Rattle.trips.specs.declared.span.Span.{Span}
-use Rattle.trips.specs.declared.span.Span.TheVariants.{Range, Seam}
 use Rattle.trips.specs.declared.Trip.{Trip}
 use Rattle.movement_system.specs.Passing.{passing_words}
 use Rattle.movement_system.specs.Movement.{passed_by}
-use Rattle.movement_system.specs.declared.Ends.{Ends}
 use Rattle.moves.specs.Moves.{comes, coming_words}
 
--- a span's ranges one by one, as the code goes through them
-abbrev pub range_count : Span → ℕ
-range_count (Range lo hi) = 1
-range_count (Seam old circumference new) = 2
-
-abbrev pub range_at : Span → ℕ → Ends
-range_at (Range lo hi) k = record { lo = lo; hi = hi; inclusive = false }
-range_at (Seam old circumference new) k =
-    cond (eqb k 0) (record { lo = old; hi = circumference; inclusive = false }) (record { lo = Float.zero; hi = new; inclusive = true })
+-- the numbers of the stops below their count, in the order of their sort
+abbrev pub order_of : Stops → List ℕ
+order_of stops = sorted_stops stops.items (min stops.count 64)
 
 -- a turn's words, and how many moves it is
 abbrev pub words_by : Trip → ℕ → LineKind → List Float → ℕ → Car → MovementResult → Lamps → List ℕ
