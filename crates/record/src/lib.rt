@@ -12,17 +12,17 @@ use hall_calls::clear_hall_calls;
 use landing::{landing, leader_of};
 use log_words::Event;
 use log_writes::Log;
+use movement_system::sort::SortedStops;
 use movement_system::turn::tell;
 use moves::{come, distance_by};
 use record_kinds::{change, take_tick};
-use sorted::sorted_stops;
 use sound::broken;
 use steps::line_at;
 use tape::decode;
 use tape_records::Read;
 use trips::{is_trip, trip_of};
-use world::refusal::Refusal;
 use world::World;
+use world::refusal::Refusal;
 
 // An accepted record: the words used and the log words written.
 #[derive(Clone, Copy)]
@@ -69,8 +69,7 @@ pub fn record(world: World, words: &[u32], log: &mut [u32]) -> Recorded
     }
     // 3. the tick's word; movement.rs, run: car by car, each on positions already updated in this tick. A car at rest is left alone.
     let cars = w.cars.count.min(16);
-    let stop_count = w.stops.count;
-    let sort = sorted_stops(&w.stops);
+    let sort = SortedStops::new(&w.stops);
     let mut log = Log::new(log);
     log.emit(Event::TickMade { tick: w.ticks });
     for i in 0..cars {
@@ -86,9 +85,7 @@ pub fn record(world: World, words: &[u32], log: &mut [u32]) -> Recorded
             } else {
                 car.lamps
             };
-            let moves = tell(
-                &mut log, number, trip, kind, car, result, lamps, &sort, &w.stops.items, stop_count,
-            );
+            let moves = tell(&mut log, number, trip, kind, car, result, lamps, &sort);
             w.cars.items[i].motion.position = result.position;
             w.cars.items[i].motion.velocity = result.velocity;
             w.cars.items[i].move_count = car.move_count.wrapping_add(moves);

@@ -5,16 +5,14 @@ use Rattle.log_writes.proofs.Telling.{told_none, told_also}
 use Rattle.log_writes.specs.declared.Log.{Log}
 use Rattle.sound.specs.Sound.{broken}
 use Rattle.world.specs.World.{car_at}
-use Rattle.world.specs.Tables.{Stops}
 use Rattle.world.specs.declared.World.{World}
 use Rattle.world.specs.declared.Line.{Line}
 use Rattle.steps.specs.Steps.{Step, step_of, run_to}
 use Rattle.std.specs.declared.option.Option.{Option}
 use Rattle.steps.specs.declared.JustOpened.{JustOpened}
 use Rattle.laws.specs.Numbers.{plus}
-use Rattle.sorted.specs.Sorted.{sorted_table}
 use Rattle.doors_system.proofs.Running.{Runs, same, more, turn_on_lem, door_of_lem, passed, ended}
-use Rattle.movement_system.proofs.Moving.{Moves, stops_kept, cars_kept, calls_kept, cleared, doored_after, looked, comes_in, goes_on_lem, stays}
+use Rattle.movement_system.proofs.Moving.{Moves, cars_kept, calls_kept, cleared, doored_after, looked, comes_in, goes_on_lem, stays}
 use Rattle.tick.specs.Tick.{ticked, tick_world, tick_words}
 use Rattle.record.proofs.Giving.{is_broken, is_whole, is_refused, is_made, is_changed, tick_refused, tick_taken_lem}
 use Rattle.record.proofs.record.Goals as goal
@@ -65,34 +63,32 @@ unfolding plus
 loop-i-preserved c =
     let s = c.loop-i in
     let so_far : s.i + 1 ≤ c.min-cars.result = omega (arith, c.loop-i-test.true) in
-    let order : c.sorted_stops-sort.result ≡ sorted_table s.w.stops.items (min c.args.world.stops.count 64) =
-    c.sorted_stops-sort.ensures ∙ ap (λ (stops : Stops). sorted_table stops.items (min c.args.world.stops.count 64)) (sym (stops_kept s.invariant.1)) in
     let trip = c.trip_of-trip in
     elim c.if-is_trip.branch [
       | then-is_trip+then-result u ↦
           let look =
-              looked c.in-Ok-Tick.dt s.w s.i trip.result _ u.leader_of-leader.result u.landing-result.result u.if-asks_work.lamps trip.ensures
-              (rw c.is_trip.ensures at u.if-is_trip.true) (ap (λ (l : Line). l.kind) u.line_at-kind.ensures) u.leader_of-leader.ensures u.landing-result.ensures
-              (elim u.if-asks_work.branch [
-                | then-asks_work z ↦ inr (rw u.asks_work.ensures at z.if-asks_work.true, z.lamps-is ∙ z.work_of-lamps.ensures)
-                | else-asks_work z ↦ inl (rw u.asks_work.ensures at z.if-asks_work.false, z.lamps-is)
-              ]) in (
+          looked c.in-Ok-Tick.dt s.w s.i trip.result _ u.leader_of-leader.result u.landing-result.result u.if-asks_work.lamps trip.ensures
+          (rw c.is_trip.ensures at u.if-is_trip.true) (ap (λ (l : Line). l.kind) u.line_at-kind.ensures) u.leader_of-leader.ensures u.landing-result.ensures
+          (elim u.if-asks_work.branch [
+            | then-asks_work z ↦ inr (rw u.asks_work.ensures at z.if-asks_work.true, z.lamps-is ∙ z.work_of-lamps.ensures)
+            | else-asks_work z ↦ inl (rw u.asks_work.ensures at z.if-asks_work.false, z.lamps-is)
+          ]) in (
             so_far,
-            comes_in c.in-Ok-Tick.dt _ s.w c.if-is_trip.w _ s.log _ c.if-is_trip.log s.i trip.result _ u.landing-result.result u.if-asks_work.lamps s.w.stops u.tell-moves.result _ _ u.distance_by.result u.come.result s.invariant.1 look
-            (u.tell-moves.ensures order) refl refl u.distance_by.ensures u.if-result.true u.come.ensures u.w-is u.log-is,
+            comes_in c.in-Ok-Tick.dt _ s.w c.if-is_trip.w _ s.log _ c.if-is_trip.log s.i trip.result _ u.landing-result.result u.if-asks_work.lamps c.new-sort.result u.tell-moves.result _ _ u.distance_by.result u.come.result s.invariant.1 look
+                u.tell-moves.ensures refl refl u.distance_by.ensures u.if-result.true u.come.ensures u.w-is u.log-is,
             s.invariant.2,
           )
       | then-is_trip+else-result u ↦
           let look =
-              looked c.in-Ok-Tick.dt s.w s.i trip.result _ u.leader_of-leader.result u.landing-result.result u.if-asks_work.lamps trip.ensures
-              (rw c.is_trip.ensures at u.if-is_trip.true) (ap (λ (l : Line). l.kind) u.line_at-kind.ensures) u.leader_of-leader.ensures u.landing-result.ensures
-              (elim u.if-asks_work.branch [
-                | then-asks_work z ↦ inr (rw u.asks_work.ensures at z.if-asks_work.true, z.lamps-is ∙ z.work_of-lamps.ensures)
-                | else-asks_work z ↦ inl (rw u.asks_work.ensures at z.if-asks_work.false, z.lamps-is)
-              ]) in (
+          looked c.in-Ok-Tick.dt s.w s.i trip.result _ u.leader_of-leader.result u.landing-result.result u.if-asks_work.lamps trip.ensures
+          (rw c.is_trip.ensures at u.if-is_trip.true) (ap (λ (l : Line). l.kind) u.line_at-kind.ensures) u.leader_of-leader.ensures u.landing-result.ensures
+          (elim u.if-asks_work.branch [
+            | then-asks_work z ↦ inr (rw u.asks_work.ensures at z.if-asks_work.true, z.lamps-is ∙ z.work_of-lamps.ensures)
+            | else-asks_work z ↦ inl (rw u.asks_work.ensures at z.if-asks_work.false, z.lamps-is)
+          ]) in (
             so_far,
-            goes_on_lem c.in-Ok-Tick.dt _ s.w c.if-is_trip.w _ s.log _ c.if-is_trip.log s.i trip.result _ u.landing-result.result u.if-asks_work.lamps s.w.stops u.tell-moves.result _ _ u.distance_by.result s.invariant.1 look (stops_kept s.invariant.1)
-            (u.tell-moves.ensures order) refl refl u.distance_by.ensures u.if-result.false u.w-is u.log-is,
+            goes_on_lem c.in-Ok-Tick.dt _ s.w c.if-is_trip.w _ s.log _ c.if-is_trip.log s.i trip.result _ u.landing-result.result u.if-asks_work.lamps c.new-sort.result u.tell-moves.result _ _ u.distance_by.result s.invariant.1 look c.new-sort.ensures
+                u.tell-moves.ensures refl refl u.distance_by.ensures u.if-result.false u.w-is u.log-is,
             s.invariant.2,
           )
       | else-is_trip u ↦ (
