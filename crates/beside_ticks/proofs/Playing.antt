@@ -2,7 +2,7 @@
 use Rattle.std.proofs.Common.{◌≡◌, ℕ, ◌+◌, ◌-◌, ◌≤◌, List, length, take, drop, refl, ap, ◌∙◌, add-one, arith, length-drop, take_all}
 use Rattle.world.specs.World.{empty_world}
 use Rattle.world.specs.declared.World.{World}
-use Rattle.record.specs.declared.Recorded.{Recorded}
+use Rattle.record.specs.Record.{Recorded}
 use Rattle.record.specs.Record.{Gives, record_of, used_of, written_of}
 use Rattle.conditions.specs.Conditions.{FirstCondition}
 use Rattle.conditions.proofs.Answering.{first_condition}

@@ -38,7 +38,7 @@ use Rattle.loads.specs.Loads as Loads
 use Rattle.changes.specs.Changes as Changes
 use Rattle.loads.specs.Loads.{load_line, load_stop, load_car, load_rider}
 use Rattle.changes.specs.Changes.{start}
-use Rattle.changes.specs.declared.Changed.{Changed}
+use Rattle.changes.specs.Changes.{Changed}
 use Rattle.orders.specs.Orders as Orders
 use Rattle.modes.specs.Modes as Modes
 use Rattle.requests.specs.Requests as Requests

@@ -32,7 +32,7 @@ use Rattle.tape.proofs.Bounds.{in_bounds}
 use Rattle.changes.specs.Changes as Changes
 use Rattle.loads.specs.Loads.{line_checks, with_line, load_line, stop_checks, with_stop, load_stop, car_checks, load_car, rider_checks, with_rider, load_rider}
 use Rattle.changes.specs.Changes.{start_checks, with_start, start}
-use Rattle.changes.specs.declared.Changed.{Changed}
+use Rattle.changes.specs.Changes.{Changed}
 use Rattle.orders.specs.Orders.{send_checks, sent, send}
 use Rattle.modes.specs.Modes.{order_checks, in_mode, set_mode, at_speed, set_manual_speed, marked, set_enabled}
 use Rattle.requests.specs.Requests.{command_checks, commanded, queue_command, call_checks, with_call, press_hall_call, destination_checks, destined, push_destination}

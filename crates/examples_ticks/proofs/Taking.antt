@@ -4,7 +4,7 @@ use mathlib.Core.Path.{refl, ◌∙◌, ap}
 use Rattle.conditions.specs.Conditions.{Kept, FirstCondition}
 use Rattle.conditions.proofs.Answering.{first_condition}
 use Rattle.record.specs.Record.{Gives, record_of}
-use Rattle.record.specs.declared.Recorded.{Recorded}
+use Rattle.record.specs.Record.{Recorded}
 use Rattle.std.specs.Prelude.{Ok}
 use Rattle.record.specs.declared.Accepted.{Accepted}
 use Rattle.world.specs.declared.World.{World}

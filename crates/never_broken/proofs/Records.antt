@@ -38,7 +38,7 @@ use Rattle.tape_records.specs.declared.Record.TheVariants as Record
 use Rattle.changes.specs.Changes as Changes
 use Rattle.loads.specs.Loads.{count_with, line_checks, stop_checks, car_checks, rider_checks, load_line, load_stop, load_car, load_rider}
 use Rattle.changes.specs.Changes.{not_next, no_such_car, start_checks, start}
-use Rattle.changes.specs.declared.Changed.{Changed}
+use Rattle.changes.specs.Changes.{Changed}
 use Rattle.orders.specs.Orders.{send_checks, sent, send}
 use Rattle.modes.specs.Modes.{order_checks, in_mode, at_speed, marked, set_mode, set_manual_speed, set_enabled}
 use Rattle.requests.specs.Requests.{command_checks, call_checks, destination_checks, commanded, destined, queue_command, press_hall_call, push_destination}

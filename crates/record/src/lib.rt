@@ -53,16 +53,16 @@ pub fn record(world: World, words: &[u32], log: &mut [u32]) -> Recorded
     ensures { Call.Gives result log.new (Call.record_of world words.now log.old) }
 {
     // 1. refusal 0
-    if broken(&world) {
-        return refused(world, Refusal::BrokenWorld);
+    let mut w = world;
+    if broken(&w) {
+        return refused(w, Refusal::BrokenWorld);
     }
     // 2. refusals 1 to 12, and every record but the tick
     let (dt, words_used) = match decode(words) {
-        Ok(Read::Accepted(found, used)) => return answered(change(world, found), used),
+        Ok(Read::Accepted(found, used)) => return answered(change(w, found), used),
         Ok(Read::Tick { dt, used }) => (dt, used),
-        Err(refusal) => return refused(world, refusal),
+        Err(refusal) => return refused(w, refusal),
     };
-    let mut w = world;
     let taken = take_tick(w.started, w.ticks, w.cars.count, w.stops.count, log.len());
     if let Err(refusal) = taken {
         return refused(w, refusal);
