@@ -3,9 +3,10 @@
 
 ghost use Rattle.std.specs.Prelude.{◌≡◌};
 ghost use Rattle.record.specs.Record as Call;
+ghost use Rattle.record_kinds.specs.Kinds.{change_by};
 
 use arrival::{asks_work, work_of};
-use changes::{Answered, Changed, refused};
+use changes::{Answered, refused};
 use door_commands::has_rider_traversing;
 use doors_system::{door_turn, has_turn};
 use hall_calls::clear_hall_calls;
@@ -19,7 +20,7 @@ use record_kinds::{change, take_tick};
 use sound::broken;
 use steps::line_at;
 use tape::decode;
-use tape_records::Read;
+use tape_records::{Read, Record};
 use trips::{is_trip, trip_of};
 use world::World;
 use world::refusal::Refusal;
@@ -37,10 +38,12 @@ pub type Answer = Result<Accepted, Refusal>;
 // The answer, and the world after the call: on a refusal the one that was given.
 pub type Recorded = Answered<Accepted>;
 
-// What a record gives that writes no word.
-fn answered(changed: Changed, used: usize) -> Recorded
-    ensures { (result.answer ≡ Call.answer_of changed.answer used) × (result.world ≡ changed.world) }
+// What a record gives that writes no word. The hint keeps its worlds out of the tick, where they would be cleared: 100 ns a tick.
+#[inline(never)]
+fn answered(world: World, found: Record, used: usize) -> Recorded
+    ensures { (result.answer ≡ Call.answer_of (change_by world found).answer used) × (result.world ≡ (change_by world found).world) }
 {
+    let changed = change(world, found);
     Answered {
         answer: changed.answer.map(|()| Accepted { used, written: 0 }),
         world: changed.world,
@@ -59,7 +62,7 @@ pub fn record(world: World, words: &[u32], log: &mut [u32]) -> Recorded
     }
     // 2. refusals 1 to 12, and every record but the tick
     let (dt, words_used) = match decode(words) {
-        Ok(Read::Accepted(found, used)) => return answered(change(w, found), used),
+        Ok(Read::Accepted(found, used)) => return answered(w, found, used),
         Ok(Read::Tick { dt, used }) => (dt, used),
         Err(refusal) => return refused(w, refusal),
     };

@@ -44,7 +44,7 @@ pub returns-in-Ok-Accepted : goal.returns-in-Ok-Accepted
 returns-in-Ok-Accepted c =
     let w = c.args.world in
     is_whole w _ _ (whole (goal.at.returns-in-Ok-Accepted c).Else-broken) c.decode.ensures
-    (is_made w _ (rw c.in-Ok-Accepted.field-0-is at c.in-Ok-Accepted.is) (is_changed w _ _ _ c.change.ensures c.answered.ensures))
+    (is_made w _ (rw c.in-Ok-Accepted.field-0-is at c.in-Ok-Accepted.is) (is_changed w _ _ _ refl c.answered.ensures))
 
 pub returns-in-Err-taken : goal.returns-in-Err-taken
 returns-in-Err-taken c =
