@@ -50,6 +50,7 @@ pub fn press_hall_call(world: World, stop: u8, down: bool) -> Changed
 }
 
 // Kind A.
+// Stays: beside queue_command: each names its own queue of the car. What they share, a queue with one more, is `pushed`.
 #[tactic(auto, unfolding(crate::specs::Requests::push_destination, changes::specs::Parts::ordered, changes::specs::Parts::row_of))]
 pub fn push_destination(world: World, car: u8, stop: u8) -> Changed
     ensures { result ≡ Requests.push_destination world car stop }

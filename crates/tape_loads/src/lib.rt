@@ -81,6 +81,7 @@ fn line_kind_of(head: Head, words: &[u32]) -> LineKind
     }
 }
 
+// Stays: here and below head and words go side by side, as the paper has a head and a body; seven of the thirteen kinds have a head alone.
 #[tactic(auto, unfolding(crate::specs::LoadRecords::line_record))]
 pub fn decode_line(head: Head, words: &[u32]) -> Result<Read, Refusal>
     ensures { result ≡ answer (line_record head words.now) }

@@ -126,6 +126,7 @@ pub struct CarPlan {
 }
 
 // components/elevator.rs, Elevator, with its position, its destination queue and its reposition cooldown.
+// Stays: its number goes beside it through the calls: as the Rust's EntityId it is the car's place in the table, and no field that could say another.
 #[derive(Clone, Copy)]
 pub struct Car {
     pub line: u8,
