@@ -3,8 +3,7 @@ use Rattle.std.specs.Prelude.{◌≡◌, false, true, cond, List, ℕ, eqb, leng
 use Rattle.motion.specs.declared.movement.MovementResult.{MovementResult}
 use Rattle.world.specs.declared.Car.{Car}
 use Rattle.world.specs.declared.LineKind.{LineKind}
-use Rattle.log_writes.specs.Told.{Told}
-use Rattle.log_writes.specs.declared.Log.{Log}
+use Rattle.log_writes.specs.Told.{Told, Log}
 use Rattle.world.specs.declared.Lamps.{Lamps}
 use Rattle.float.specs.Float as Float
 use Rattle.trips.specs.Spans.{moving_up}
