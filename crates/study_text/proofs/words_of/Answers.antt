@@ -11,7 +11,7 @@ loop-four-preserved c =
     let fours = c.as_chunks.result.0.now in
     let i = c.loop-four.four-index in
     let more : i < length fours = c.loop-four-test.true in
-    rw (map_more (from_le_bytes w32) fours i [], ← c.from_le_bytes.ensures) (told_also c.loop-four.invariant c.put.ensures)
+    rw (map_more (from_le_bytes w32) fours i []) (told_also c.loop-four.invariant (rw c.from_le_bytes.ensures at c.put.ensures))
 
 pub returns : goal.returns
 returns c =
