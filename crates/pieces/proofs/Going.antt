@@ -227,7 +227,7 @@ not_at_end e s left out t = rw t (record { ended = refl; text = told_none })
 
 -- the records, then the tape's end, then the bytes that are kept: a writer of the whole buffer `out`, after the records, and at the end, when the buffer is `out'`
 module _ (piece out lent' out' piece' : List ℕ) (w w₁ w₂ : Writer ℕ) (opened : w.items.now ≡ out) (start : w.at ≡ 0) (shut : w₂.items.now ≡ out') (end : ℕ) (ended : Bool) (r : Played)
-  (over : Bool) (kept : ℕ) where
+    (over : Bool) (kept : ℕ) where
   -- what the code makes of them
   abbrev made : Advanced
   made = record { study = record { world = r.study.world; counts = r.study.counts; over = over }; held = kept; at = w₂.at }
