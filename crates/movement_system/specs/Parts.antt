@@ -3,8 +3,7 @@ use Rattle.std.specs.Prelude.{◌≡◌, cond, List, ℕ, min, length, Float}
 use Rattle.motion.specs.declared.movement.MovementResult.{MovementResult}
 use Rattle.world.specs.declared.Car.{Car}
 use Rattle.world.specs.declared.LineKind.{LineKind}
-use Rattle.log_writes.specs.Told.{Told}
-use Rattle.log_writes.specs.declared.Log.{Log}
+use Rattle.log_writes.specs.Told.{Told, Log}
 use Rattle.world.specs.declared.Lamps.{Lamps}
 use Rattle.world.specs.Tables.{Stops}
 use Rattle.sorted.specs.Sorted.{sorted_stops}

@@ -1,6 +1,6 @@
 -- The loop over a piece's records: what it still does is what the definition still does. Assumes nothing.
 use mathlib.Core.Path.{◌≡◌, refl, ap, ◌∙◌}
-use mathlib.Core.Bool.{Bool, true, false, not, ◌&&◌, cond}
+use mathlib.Core.Bool.{Bool, true, false, not, cond}
 use mathlib.Core.List.{List, [], ◌∷◌, ◌++◌, append-nil}
 use Prim.Native.Nat.{ℕ, zero, suc, ◌+◌, ◌-◌, ◌*◌, ◌/◌, ◌<◌, ◌≤◌, min}
 use native.Mathlib.Omega.{arith}
@@ -10,9 +10,11 @@ use lib.ListN.{length, take, drop, length-append, length-drop, length-take}
 use lib.Seq.{take_all, drop-drop}
 use Rattle.laws.proofs.Bools.{and_left, and_right}
 use Rattle.laws.proofs.Counting.{bit_small}
-use Rattle.world.specs.declared.World.{World}
 use Rattle.log_writes.specs.Log.{Wrote}
-use Rattle.log_writes.proofs.Writing.{wrote_none, wrote_length, wrote_fits, also}
+use Rattle.log_writes.specs.Told.{Told as Prints}
+use Rattle.log_writes.specs.declared.Writer.{Writer}
+use Rattle.log_writes.proofs.Writing.{wrote_length, wrote_fits}
+use Rattle.log_writes.proofs.Telling.{told_none, told_also}
 use Rattle.record.specs.Record as Record
 use Rattle.record.specs.Record.{Outcome, record_of, is_accepted, used_of}
 use Rattle.record.specs.Record.{Recorded}
@@ -24,17 +26,15 @@ use Rattle.study_text.specs.Text.{words_of}
 use Rattle.study_text.proofs.Keeping.{take_min}
 use Rattle.play.specs.declared.Told.{Told}
 use Rattle.play.specs.Play.{told, counts_after, ending, Tells}
-use Rattle.pieces.specs.Pieces.{Playing, after, next_record, ready, goes, play_to, ends, closed, close, advanced, playing, Gives}
-use Rattle.pieces.specs.Parts.{Reached, ClosesBy, Closes}
+use Rattle.pieces.specs.Pieces.{Playing, next_record, ready, goes, play_to, ends, closed, close, advanced, playing, Gives}
+use Rattle.pieces.specs.Parts.{IsEmpty, Reached, ClosesBy, Closes}
 use Rattle.pieces.specs.declared.Study.{Study}
-use Rattle.pieces.specs.declared.Step.{Step}
 use Rattle.pieces.specs.declared.Played.{Played}
-use Rattle.pieces.specs.declared.Closed.{Closed}
 use Rattle.pieces.specs.declared.Advanced.{Advanced}
 use Rattle.pieces.proofs.Sizes.{words_drop, words_few, told_length, ending_length}
 
 -- the study at a place of the piece
-abbrev pub here : Step → List ℕ → List ℕ → ℕ → List ℕ → Playing
+abbrev pub here : Study → List ℕ → List ℕ → ℕ → List ℕ → Playing
 here s log piece from text = record {
   world = s.world;
   counts = s.counts;
@@ -44,34 +44,29 @@ here s log piece from text = record {
   over = s.over;
 }
 
--- before the first record
-abbrev pub begun : Study → Step
-begun s = record { world = s.world; counts = s.counts; at = 0; over = s.over }
-
 -- what is left to do, in words, and in one more turn where no refusal was met
 abbrev pub left : List ℕ → ℕ → Bool → ℕ
 left piece from over = (length (words_of piece) - from) + bit (not over)
 
-pub record Going (ended : Bool) (p₀ : Playing) (piece out₀ log out : List ℕ) (s : Step) (from : ℕ) : Type 0 where
+pub record Going (ended : Bool) (p₀ : Playing) (piece : List ℕ) (out₀ : Writer ℕ) (log : List ℕ) (out : Writer ℕ) (s : Study) (from : ℕ) : Type 0 where
   pub text : List ℕ
-  pub wrote : Wrote out₀ 0 text out s.at
-  pub at : s.at ≡ length text
+  pub told : Prints out₀ text out
+  pub at : out.at ≡ length text
   pub within : from ≤ length (words_of piece)
   pub lent : length log ≡ 2048
-  pub buffer : length out₀ ≡ 65536
+  pub buffer : length out₀.items.now ≡ 65536
   pub fuel : ℕ
   pub enough : left piece from s.over < fuel
   pub same : play_to (2 + length piece) ended p₀ ≡ play_to fuel ended (here s log piece from text)
 
-pub going : (ended : Bool) (piece out log : List ℕ) (s : Step) → s.at ≡ 0 → length log ≡ 2048 → length out ≡ 65536
-    → Going ended (here s log piece 0 []) piece out log out s 0
-going ended piece out log s e l o = record {
+pub going : (ended : Bool) (piece log : List ℕ) (out : Writer ℕ) (s : Study) → IsEmpty out → length log ≡ 2048 → Going ended (here s log piece 0 []) piece out log out s 0
+going ended piece log out s e l = record {
   text = [];
-  wrote = rw e wrote_none;
-  at = e;
+  told = told_none;
+  at = e.start;
   within = omega arith;
   lent = l;
-  buffer = o;
+  buffer = e.room;
   fuel = 2 + length piece;
   enough = omega (arith, words_few piece, bit_small (not s.over));
   same = refl;
@@ -79,23 +74,23 @@ going ended piece out log s e l o = record {
 
 -- ---- one more record
 
--- after a call that gives this outcome, which used so many words: its text stands in the buffer
-pub record Stepped (o : Outcome) (c : Counts) (out : List ℕ) (at : ℕ) (s : Step) (n : ℕ) (out' : List ℕ) : Type 0 where
+-- after a call that gives this outcome, which used so many words: its text is printed
+pub record Stepped (o : Outcome) (c : Counts) (out : Writer ℕ) (s : Study) (n : ℕ) (out' : Writer ℕ) : Type 0 where
   pub world : s.world ≡ o.world
   pub counts : s.counts ≡ counts_after o.answer o.log c
   pub used : n ≡ used_of o.answer
   pub over : s.over ≡ not (is_accepted o.answer)
-  pub text : Wrote out at (told o.answer o.log) out' s.at
+  pub text : Prints out (told o.answer o.log) out'
 
 -- what the code holds then: the world of what the call made, and what is told of its answer
-abbrev pub holds : Recorded → Counts → ℕ → Bool → Step
-holds made c at over = record { world = made.world; counts = c; at = at; over = over }
+abbrev pub holds : Recorded → Counts → Bool → Study
+holds made c over = record { world = made.world; counts = c; over = over }
 
-pub stepped : (o : Outcome) (made : Recorded) (log' out out' : List ℕ) (c : Counts) (at : ℕ) (t : Told)
+pub stepped : (o : Outcome) (made : Recorded) (log' : List ℕ) (out out' : Writer ℕ) (c : Counts) (t : Told)
     → Record.Gives made log' o
-    → Tells made.answer log' c out at t out'
-    → Stepped o c out at (holds made t.counts t.at t.refused) t.used out'
-stepped o made log' out out' c at t g k = record {
+    → Tells made.answer log' c out t out'
+    → Stepped o c out (holds made t.counts t.refused) t.used out'
+stepped o made log' out out' c t g k = record {
   world = g.world;
   counts = rw (← g.answer, ← g.log) k.counts;
   used = rw (← g.answer) k.used;
@@ -128,16 +123,16 @@ drop_on piece from used = drop-drop (4 * used) (4 * from) piece ∙ ap (λ (n : 
     sum a b = omega arith
 
 -- the next record, by what the code's step gives
-next_here : (s s' : Step) (log log' out out' piece text : List ℕ) (from used : ℕ)
+next_here : (s s' : Study) (log log' : List ℕ) (out out' : Writer ℕ) (piece text : List ℕ) (from used : ℕ)
     → log' ≡ (record_of s.world (drop from (words_of piece)) log).log
-    → Stepped (record_of s.world (drop from (words_of piece)) log) s.counts out s.at s' used out'
+    → Stepped (record_of s.world (drop from (words_of piece)) log) s.counts out s' used out'
     → next_record (here s log piece from text)
     ≡ here s' log' piece (from + used) (text ++ told (record_of s.world (drop from (words_of piece)) log).answer (record_of s.world (drop from (words_of piece)) log).log)
 unfolding next_record
 next_here s s' log log' out out' piece text from used el st =
     rw (words_from, el, st.world, st.counts, st.over, st.used, drop_on)
 
-module _ (ended : Bool) (piece log : List ℕ) (s : Step) (from : ℕ) where
+module _ (ended : Bool) (piece log : List ℕ) (s : Study) (from at : ℕ) where
   -- the record call's answer there
   abbrev met : Outcome
   met = record_of s.world (drop from (words_of piece)) log
@@ -146,14 +141,14 @@ module _ (ended : Bool) (piece log : List ℕ) (s : Step) (from : ℕ) where
   unfolding FirstCondition
   kept_there = first_condition s.world (drop from (words_of piece)) log
 
-  stands : goes ended s.over (length (words_of piece) - from) s.at ≡ true → s.over ≡ false
+  stands : goes ended s.over (length (words_of piece) - from) at ≡ true → s.over ≡ false
   stands e = not-true s.over (and_left (not s.over) _ e)
 
   -- fewer words are left, or the turn was the last
-  pub fewer : (s' : Step) (used : ℕ) (out out' : List ℕ)
-      → goes ended s.over (length (words_of piece) - from) s.at ≡ true
+  pub fewer : (s' : Study) (used : ℕ) (out out' : Writer ℕ)
+      → goes ended s.over (length (words_of piece) - from) at ≡ true
       → from ≤ length (words_of piece)
-      → Stepped met s.counts out s.at s' used out'
+      → Stepped met s.counts out s' used out'
       → left piece (from + used) s'.over < left piece from s.over
   fewer s' used out out' e h st = rw (stands e, st.over, st.used) (go (is_accepted met.answer) refl)
     where
@@ -164,28 +159,31 @@ module _ (ended : Bool) (piece log : List ℕ) (s : Step) (from : ℕ) where
       go true k = omega (arith, kept_there.some k, bound, h)
       go false k = omega arith
 
-  pub turn : (p₀ : Playing) (out₀ out log' out' : List ℕ) (s' : Step) (used : ℕ)
+module _ (ended : Bool) (piece log : List ℕ) (s : Study) (from : ℕ) where
+  pub turn : (p₀ : Playing) (out₀ out : Writer ℕ) (log' : List ℕ) (out' : Writer ℕ) (s' : Study) (used : ℕ)
       → Going ended p₀ piece out₀ log out s from
-      → goes ended s.over (length (words_of piece) - from) s.at ≡ true
-      → log' ≡ met.log
-      → Stepped met s.counts out s.at s' used out'
+      → goes ended s.over (length (words_of piece) - from) out.at ≡ true
+      → log' ≡ (met ended piece log s from out.at).log
+      → Stepped (met ended piece log s from out.at) s.counts out s' used out'
       → Going ended p₀ piece out₀ log' out' s' (from + used)
   turn p₀ out₀ out log' out' s' used g e el st =
-      let place : s.at < 32768 = ltb-true s.at 32768 (and_right (ready ended (length (words_of piece) - from)) (ltb s.at 32768) (and_right (not s.over) _ e)) in
-      let lent : length met.log ≡ 2048 = kept_there.size ∙ g.lent in
-      let short : length (told met.answer met.log) ≤ 18432 = told_length met.answer met.log lent in
-      let buffer : length out ≡ 65536 = wrote_length g.wrote ∙ g.buffer in
+      let o = met ended piece log s from out.at in
+      let kept = kept_there ended piece log s from out.at in
+      let place : out.at < 32768 = ltb-true out.at 32768 (and_right (ready ended (length (words_of piece) - from)) (ltb out.at 32768) (and_right (not s.over) _ e)) in
+      let lent : length o.log ≡ 2048 = kept.size ∙ g.lent in
+      let short : length (told o.answer o.log) ≤ 18432 = told_length o.answer o.log lent in
+      let buffer : length out.items.now ≡ 65536 = wrote_length g.told.wrote ∙ g.buffer in
       let last : g.fuel ≡ suc (g.fuel - 1) = omega (arith, g.enough) in
       let goes_on_lem : goes ended s.over (length (words_of (drop (4 * from) piece))) (length g.text) ≡ true = rw (count_from piece from, ← g.at) e in
       record {
-        text = g.text ++ told met.answer met.log;
-        wrote = also g.wrote st.text;
-        at = wrote_fits st.text (omega (arith, place, short, buffer)) ∙ rw (length-append, g.at);
-        within = rw st.used (omega (arith, g.within, rw length-drop at kept_there.used));
+        text = g.text ++ told o.answer o.log;
+        told = told_also g.told st.text;
+        at = wrote_fits st.text.wrote (omega (arith, place, short, buffer)) ∙ rw (length-append, g.at);
+        within = rw st.used (omega (arith, g.within, rw length-drop at kept.used));
         lent = ap length el ∙ lent;
         buffer = g.buffer;
         fuel = g.fuel - 1;
-        enough = omega (arith, g.enough, fewer s' used out out' e g.within st);
+        enough = omega (arith, g.enough, fewer ended piece log s from out.at s' used out out' e g.within st);
         same = g.same
             ∙ ap (λ (n : ℕ). play_to n ended (here s log piece from g.text)) last
             ∙ play_goes ended (g.fuel - 1) (here s log piece from g.text) goes_on_lem
@@ -193,8 +191,8 @@ module _ (ended : Bool) (piece log : List ℕ) (s : Step) (from : ℕ) where
       }
 
 -- the loop's end
-stopped : (ended : Bool) (p₀ : Playing) (piece out₀ log out : List ℕ) (s : Step) (from : ℕ) (g : Going ended p₀ piece out₀ log out s from)
-    → goes ended s.over (length (words_of piece) - from) s.at ≡ false
+stopped : (ended : Bool) (p₀ : Playing) (piece : List ℕ) (out₀ : Writer ℕ) (log : List ℕ) (out : Writer ℕ) (s : Study) (from : ℕ) (g : Going ended p₀ piece out₀ log out s from)
+    → goes ended s.over (length (words_of piece) - from) out.at ≡ false
     → play_to (2 + length piece) ended p₀ ≡ here s log piece from g.text
 stopped ended p₀ piece out₀ log out s from g e = g.same ∙ play_stops ended g.fuel (here s log piece from g.text) (rw (count_from piece from, ← g.at) e)
 
@@ -202,13 +200,13 @@ stopped ended p₀ piece out₀ log out s from g e = g.same ∙ play_stops ended
 pub rest_of : (piece words : List ℕ) (from : ℕ) → words ≡ words_of piece → take (length words - from) (drop from words) ≡ drop from (words_of piece)
 rest_of piece words from e = take_all (length words - from) (drop from words) (rw length-drop (omega arith)) ∙ rw e
 
-pub reached : (ended : Bool) (p₀ : Playing) (piece out₀ log out : List ℕ) (s : Step) (from : ℕ)
+pub reached : (ended : Bool) (p₀ : Playing) (piece : List ℕ) (out₀ : Writer ℕ) (log : List ℕ) (out : Writer ℕ) (s : Study) (from : ℕ)
     → Going ended p₀ piece out₀ log out s from
-    → goes ended s.over (length (words_of piece) - from) s.at ≡ false
-    → Reached (record { step = s; from = from }) piece out₀ log out (play_to (2 + length piece) ended p₀)
+    → goes ended s.over (length (words_of piece) - from) out.at ≡ false
+    → Reached (record { study = s; from = from }) piece out₀ log out (play_to (2 + length piece) ended p₀)
 reached ended p₀ piece out₀ log out s from g e =
     rw (stopped ended p₀ piece out₀ log out s from g e)
-    (record { world = refl; counts = refl; over = refl; log = refl; bytes = refl; within = g.within; text = g.wrote; at = g.at })
+    (record { world = refl; counts = refl; over = refl; log = refl; bytes = refl; within = g.within; text = g.told; at = g.at })
 
 -- ---- a piece
 
@@ -221,30 +219,30 @@ words_of_count (x ∷ y ∷ z ∷ []) = omega arith
 words_of_count (x ∷ y ∷ z ∷ u ∷ b) = omega (arith, words_of_count b)
 
 -- the tape's end, by the code's test
-pub at_end_lem : (e : Bool) (s : Step) (left : ℕ) (out out' : List ℕ) (at : ℕ) → e ≡ true → Wrote out s.at (ending s.world s.counts left) out' at
-    → ClosesBy e s left out (record { at = at; over = true }) out'
-at_end_lem e s left out out' at t w = rw t (record { over = refl; text = w })
+pub at_end_lem : (e : Bool) (s : Study) (left : ℕ) (out out' : Writer ℕ) → e ≡ true → Prints out (ending s.world s.counts left) out' → ClosesBy e s left out true out'
+at_end_lem e s left out out' t w = rw t (record { ended = refl; text = w })
 
-pub not_at_end : (e : Bool) (s : Step) (left : ℕ) (out : List ℕ) → e ≡ false → ClosesBy e s left out (record { at = s.at; over = s.over }) out
-not_at_end e s left out t = rw t (record { over = refl; text = wrote_none })
+pub not_at_end : (e : Bool) (s : Study) (left : ℕ) (out : Writer ℕ) → e ≡ false → ClosesBy e s left out s.over out
+not_at_end e s left out t = rw t (record { ended = refl; text = told_none })
 
--- the records, then the tape's end, then the bytes that are kept
-module _ (piece out lent' out₁ out' piece' : List ℕ) (end : ℕ) (ended : Bool) (r : Played) (cl : Closed) (kept : ℕ) where
+-- the records, then the tape's end, then the bytes that are kept: a writer of the whole buffer `out`, after the records, and at the end, when the buffer is `out'`
+module _ (piece out lent' out' piece' : List ℕ) (w w₁ w₂ : Writer ℕ) (opened : w.items.now ≡ out) (start : w.at ≡ 0) (shut : w₂.items.now ≡ out') (end : ℕ) (ended : Bool) (r : Played)
+    (over : Bool) (kept : ℕ) where
   -- what the code makes of them
   abbrev made : Advanced
-  made = record { study = record { world = r.step.world; counts = r.step.counts; over = cl.over }; held = kept; at = cl.at }
+  made = record { study = record { world = r.study.world; counts = r.study.counts; over = over }; held = kept; at = w₂.at }
 
   closes : (p : Playing)
       → length out ≡ 65536
       → end ≤ length piece
-      → Reached r (take end piece) out lent' out₁ p
-      → Closes r.step ended (end - r.from * 4) out₁ cl out'
+      → Reached r (take end piece) w lent' w₁ p
+      → Closes r.study ended (end - r.from * 4) w₁ over w₂
       → Wrote piece 0 (drop (r.from * 4) (take end piece)) piece' kept
       → Gives made piece out piece' lent' out' (close ended p)
   unfolding close
-  closes p o h g k w =
+  closes p o h g k keeps =
       rw same_test
-      (go (ends ended r.step.over ((end - r.from * 4) / 4) r.step.at) refl k)
+      (go (ends ended r.study.over ((end - r.from * 4) / 4) w₁.at) refl k)
     where
       four : r.from * 4 ≡ 4 * r.from
       four = omega arith
@@ -252,45 +250,48 @@ module _ (piece out lent' out₁ out' piece' : List ℕ) (end : ℕ) (ended : Bo
       left_is : length p.bytes ≡ end - r.from * 4
       left_is = rw (← g.bytes) (simp (length-drop, length-take) (omega arith))
 
-      same_test : ends ended p.over (length (words_of p.bytes)) (length p.text) ≡ ends ended r.step.over ((end - r.from * 4) / 4) r.step.at
+      same_test : ends ended p.over (length (words_of p.bytes)) (length p.text) ≡ ends ended r.study.over ((end - r.from * 4) / 4) w₁.at
       same_test = rw (← g.over, ← g.at, words_of_count p.bytes, left_is)
 
       held_is : Wrote piece 0 p.bytes piece' kept
-      held_is = rw (← g.bytes, ← four) w
+      held_is = rw (← g.bytes, ← four) keeps
+
+      stands_there : (text : List ℕ) → Prints w text w₂ → Wrote out 0 text out' w₂.at
+      stands_there text t = rw (opened, start, shut) at t.wrote
 
       all_fits : length p.text ≤ length out
-      all_fits = omega (arith, g.text.next, g.at)
+      all_fits = omega (arith, g.text.wrote.next, g.at, start, ap length opened)
 
-      go : (e : Bool) → ends ended r.step.over ((end - r.from * 4) / 4) r.step.at ≡ e → ClosesBy e r.step (end - r.from * 4) out₁ cl out' → Gives made piece out piece' lent' out' (cond e (closed p) p)
+      go : (e : Bool) → ends ended r.study.over ((end - r.from * 4) / 4) w₁.at ≡ e → ClosesBy e r.study (end - r.from * 4) w₁ over w₂ → Gives made piece out piece' lent' out' (cond e (closed p) p)
       go true e k =
-          let small : r.step.at < 32768 = ltb-true r.step.at 32768 (and_right (eqb ((end - r.from * 4) / 4) 0) _ (and_right (not r.step.over) _ (and_right ended _ e))) in
+          let small : w₁.at < 32768 = ltb-true w₁.at 32768 (and_right (eqb ((end - r.from * 4) / 4) 0) _ (and_right (not r.study.over) _ (and_right ended _ e))) in
           record {
             world = g.world;
             counts = g.counts;
-            over = k.over;
+            over = k.ended;
             log = g.log;
             kept = held_is;
-            text = also g.text (rw (← g.world, ← g.counts, left_is) k.text);
+            text = stands_there _ (told_also g.text (rw (← g.world, ← g.counts, left_is) k.text));
             fits = rw length-append (omega (arith, small, g.at, o, ending_length p.world p.counts (length p.bytes)));
           }
       go false e k = record {
         world = g.world;
         counts = g.counts;
-        over = k.over ∙ g.over;
+        over = k.ended ∙ g.over;
         log = g.log;
         kept = held_is;
-        text = rw append-nil at (also g.text k.text);
+        text = stands_there p.text (rw append-nil at (told_also g.text k.text));
         fits = all_fits;
       }
 
   pub advances : (study : Study) (log : List ℕ) (held : ℕ)
       → length out ≡ 65536
       → end ≡ min held (length piece)
-      → Reached r (take end piece) out lent' out₁ (play_to (2 + length (take end piece)) ended (playing study log (take end piece)))
-      → Closes r.step ended (end - r.from * 4) out₁ cl out'
+      → Reached r (take end piece) w lent' w₁ (play_to (2 + length (take end piece)) ended (playing study log (take end piece)))
+      → Closes r.study ended (end - r.from * 4) w₁ over w₂
       → Wrote piece 0 (drop (r.from * 4) (take end piece)) piece' kept
       → Gives made piece out piece' lent' out' (advanced ended (playing study log (take held piece)))
   unfolding advanced
-  advances study log held o e g k w =
+  advances study log held o e g k keeps =
       let same_bytes : take held piece ≡ take end piece = rw (e, take_min) in
-      rw same_bytes (closes (play_to (2 + length (take end piece)) ended (playing study log (take end piece))) o (omega arith) g k w)
+      rw same_bytes (closes (play_to (2 + length (take end piece)) ended (playing study log (take end piece))) o (omega arith) g k keeps)

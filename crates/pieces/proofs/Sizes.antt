@@ -1,8 +1,8 @@
 -- How long the texts are, and the words behind some bytes. Assumes nothing.
-use mathlib.Core.Path.{◌≡◌, refl, ap, ◌∙◌}
+use mathlib.Core.Path.{◌≡◌, refl, ap}
 use mathlib.Core.Bool.{Bool, true, false, cond}
 use mathlib.Core.List.{List, [], ◌∷◌, ◌++◌}
-use Prim.Native.Nat.{ℕ, zero, suc, ◌+◌, ◌-◌, ◌*◌, ◌/◌, ◌%◌, ◌<◌, ◌≤◌}
+use Prim.Native.Nat.{ℕ, zero, suc, ◌*◌, ◌/◌, ◌%◌, ◌≤◌, min}
 use native.Mathlib.Omega.{arith}
 use lib.Dec.{ltb}
 use lib.ListN.{length, take, drop, length-append, length-take}
@@ -17,8 +17,8 @@ use Rattle.report.specs.declared.Counts.{Counts}
 use Rattle.report.specs.declared.Totals.{Totals}
 use Rattle.report.specs.Report.{Reported}
 use Rattle.report.specs.Report.{counted_report}
-use Rattle.study_text.specs.Text.{words_of, field, report_line, refused_line}
-use Rattle.study_numbers.specs.NumberText.{word_line, word_lines, decimal_to, decimal, text, newline}
+use Rattle.study_text.specs.Text.{words_of, report_line, refused_line}
+use Rattle.study_numbers.specs.NumberText.{word_line, word_lines, decimal_to}
 use Rattle.study_numbers.proofs.Digits.{word_line_length}
 use Rattle.play.specs.Play.{told, last_line, ending}
 
@@ -47,6 +47,10 @@ words_few (x ∷ []) = omega arith
 words_few (x ∷ y ∷ []) = omega arith
 words_few (x ∷ y ∷ z ∷ []) = omega arith
 words_few (x ∷ y ∷ z ∷ u ∷ b) = omega (arith, words_few b)
+
+-- of a buffer's first bytes
+pub taken_few : (n : ℕ) (b : List ℕ) → 4 * length (words_of (take n b)) ≤ min n (length b)
+taken_few n b = omega (arith, words_few (take n b), length-take n b)
 
 -- ---- texts
 

@@ -5,12 +5,14 @@ ghost use Rattle.std.specs.Prelude.{◌≡◌, true, ◌+◌, ◌≤◌, min, le
 ghost use Rattle.study_text.specs.Text.{words_of};
 ghost use Rattle.pieces.specs.Pieces.{Gives, advanced, playing, play_to, fresh};
 ghost use Rattle.pieces.specs.Pieces.{goes as goes_on};
-ghost use Rattle.pieces.specs.Parts.{Reached, Closes};
+ghost use Rattle.pieces.specs.Parts.{IsEmpty, Reached, Closes};
 
 use lent::turn;
+use log_writes::Writer;
 use play::{finish, tell_answer};
 use record::{Accepted, Recorded};
 use report::{Counts, no_counts};
+use study_numbers::Text;
 use study_text::{keep, words_of};
 use world::World;
 use world::empty::empty;
@@ -49,19 +51,10 @@ fn goes(ended: bool, over: bool, words: usize, at: usize) -> bool
     !over & (((69 <= words) | (ended & (0 < words))) & (at < 32768))
 }
 
-// After the records: the world and the counts, the next place in the text, and whether one was refused or the study was over before.
-#[derive(Clone, Copy)]
-struct Step {
-    world: World,
-    counts: Counts,
-    at: usize,
-    over: bool,
-}
-
-// Where the records ended.
+// The study after the records of a piece, and where they ended in its words.
 #[derive(Clone, Copy)]
 struct Played {
-    step: Step,
+    study: Study,
     from: usize,
 }
 
@@ -73,9 +66,10 @@ fn play_words(
     words: &[u32],
     ended: bool,
     log: &mut [u32; 2048],
-    out: &mut [u8; 65536],
+    out: &mut Text,
 ) -> Played
-    requires { words.now ≡ words_of piece.now }
+    requires words { words.now ≡ words_of piece.now }
+    requires empty { IsEmpty out.old }
     ensures { Reached result piece.now out.old log.new out.new (play_to (2 + length piece.now) ended (playing study log.old piece.now)) }
 {
     let nothing = Ok(Accepted {
@@ -88,27 +82,24 @@ fn play_words(
         world: begun,
     };
     let mut counts = study.counts;
-    let mut at: usize = 0;
     let mut over = study.over;
     let mut from: usize = 0;
     // Stays: a while: the loop goes on by what was told last, and counts no index.
-    while goes(ended, over, words.len() - from, at) {
+    while goes(ended, over, words.len() - from, out.at) {
         made = turn(made.world, &words[from..], log);
         let answer = made.answer;
-        let told = tell_answer(answer, counts, log, out, at);
+        let told = tell_answer(answer, counts, log, out);
         counts = told.counts;
-        at = told.at;
         over = told.refused;
         from += told.used;
     }
     let world = made.world;
-    let step = Step {
+    let after = Study {
         world,
         counts,
-        at,
         over,
     };
-    Played { step, from }
+    Played { study: after, from }
 }
 
 // The records of these bytes.
@@ -117,43 +108,34 @@ fn play_bytes(
     bytes: &[u8],
     ended: bool,
     log: &mut [u32; 2048],
-    out: &mut [u8; 65536],
+    out: &mut Text,
 ) -> Played
-    requires { length bytes.now ≤ 16384 }
+    requires few { length bytes.now ≤ 16384 }
+    requires empty { IsEmpty out.old }
     ensures { Reached result bytes.now out.old log.new out.new (play_to (2 + length bytes.now) ended (playing study log.old bytes.now)) }
 {
     let mut words = [0u32; 4096];
-    let count = words_of(bytes, &mut words, 0);
+    let count = words_of(bytes, &mut words);
     play_words(study, bytes, &words[..count], ended, log, out)
 }
 
-// The text's next place, and whether the study is over.
-#[derive(Clone, Copy)]
-struct Closed {
-    at: usize,
-    over: bool,
-}
-
-// The end of the tape, where the input ended and so many bytes are left: the report, or a refusal.
-fn close(step: Step, ended: bool, left: usize, out: &mut [u8]) -> Closed
-    ensures { Closes step ended left out.old result out.new }
+// The end of the tape, where the input ended and so many bytes are left: the report, or a refusal. Answers whether the study is over.
+#[tactic(auto, using(crate::proofs::Going::at_end_lem, crate::proofs::Going::not_at_end))]
+fn close(study: Study, ended: bool, left: usize, out: &mut Text) -> bool
+    ensures { Closes study ended left out.old result out.new }
 {
-    if ended & (!step.over & ((left / 4 == 0) & (step.at < 32768))) {
-        let world = step.world;
-        let counts = step.counts;
-        return Closed {
-            at: finish(world, counts, left, out, step.at),
-            over: true,
-        };
+    if ended & (!study.over & ((left / 4 == 0) & (out.at < 32768))) {
+        let world = study.world;
+        let counts = study.counts;
+        finish(world, counts, left, out);
+        return true;
     }
-    Closed {
-        at: step.at,
-        over: step.over,
-    }
+    study.over
 }
 
 // What is done with the bytes at hand, the first `held` of the piece: their records, and at the input's end the report. The text stands at the start
 // of `out`; the bytes that no record used are moved to the piece's start.
+#[tactic(auto, using(crate::proofs::Sizes::taken_few))]
 pub fn advance(
     study: Study,
     piece: &mut [u8; 16384],
@@ -165,19 +147,14 @@ pub fn advance(
     ensures { Gives result piece.old out.old piece.new log.new out.new (advanced ended (playing study log.old (take held piece.old))) }
 {
     let end = held.min(piece.len());
-    let played = play_bytes(study, &piece[..end], ended, log, out);
-    let step = played.step;
+    let mut text = Writer::new(out);
+    let played = play_bytes(study, &piece[..end], ended, log, &mut text);
+    let after = played.study;
     let used = played.from * 4;
-    let closed = close(step, ended, end - used, out);
-    let world = step.world;
-    let counts = step.counts;
+    let over = close(after, ended, end - used, &mut text);
     Advanced {
-        study: Study {
-            world,
-            counts,
-            over: closed.over,
-        },
+        study: Study { over, ..after },
         held: keep(piece, used, end),
-        at: closed.at,
+        at: text.at,
     }
 }

@@ -1,8 +1,9 @@
 -- A study, record by record, and what is printed of it.
-use Rattle.std.specs.Prelude.{◌≡◌, Bool, not, List, ℕ, zero, suc, take, Ok, Err}
+use Rattle.std.specs.Prelude.{◌≡◌, not, List, ℕ, zero, suc, take, Ok, Err}
 use Rattle.world.specs.declared.World.{World}
 use Rattle.world.specs.declared.refusal.Refusal.TheVariants.{CutShort}
-use Rattle.log_writes.specs.Log.{Wrote}
+use Rattle.log_writes.specs.Told.{Told as Prints}
+use Rattle.log_writes.specs.declared.Writer.{Writer}
 use Rattle.record.specs.Record.{is_accepted, used_of}
 use Rattle.record.specs.Record.{Answer}
 use Rattle.report.specs.Report.{count_more, counted_report}
@@ -24,12 +25,12 @@ abbrev pub counts_after : Answer → List ℕ → Counts → Counts
 counts_after (Ok a) log c = count_more c (take a.written log)
 counts_after (Err r) log c = c
 
--- what the code tells of an answer and the log after it: the text goes into `out` from `at` on, and `out'` is the buffer then
-pub record Tells (a : Answer) (log : List ℕ) (c : Counts) (out : List ℕ) (at : ℕ) (t : Told) (out' : List ℕ) : Type 0 where
+-- what the code tells of an answer and the log after it: the text is told to `out`, and `out'` is the writer then
+pub record Tells (a : Answer) (log : List ℕ) (c : Counts) (out : Writer ℕ) (t : Told) (out' : Writer ℕ) : Type 0 where
   pub counts : t.counts ≡ counts_after a log c
   pub used : t.used ≡ used_of a
   pub refused : t.refused ≡ not (is_accepted a)
-  pub text : Wrote out at (told a log) out' t.at
+  pub text : Prints out (told a log) out'
 
 -- ---- the end of a tape
 

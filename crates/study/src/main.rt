@@ -95,6 +95,8 @@ fn with_round<R: Read, W: Write>(
 }
 
 // All rounds: none follows the report or a refusal. No run makes more.
+// Stays: a `for` to a count that no run reaches. Each loop is proved to end, and nobody knows how long the input is: a `loop` would need the same count
+// beside it, with its test and its step.
 fn run<R: Read, W: Write>(source: &mut R, output: &mut W) -> Result<(), Failure> {
     let mut piece = [0u8; 16384];
     let mut log = [0u32; 2048];

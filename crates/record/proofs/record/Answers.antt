@@ -2,7 +2,7 @@
 use Rattle.std.proofs.Common.{◌≡◌, ℕ, ◌+◌, ◌≤◌, min, Bool, false, ◌||◌, List, sym, refl, ap, ◌∙◌, inl, inr, add-one, arith, rules}
 use lib.Ieee.{Float}
 use Rattle.log_writes.proofs.Telling.{told_none, told_also}
-use Rattle.log_writes.specs.declared.Log.{Log}
+use Rattle.log_writes.specs.Told.{Log}
 use Rattle.sound.specs.Sound.{broken}
 use Rattle.world.specs.World.{car_at}
 use Rattle.world.specs.declared.World.{World}

@@ -1,8 +1,8 @@
 -- `study_text::put_refused` meets its contract. Assumes nothing.
-use Rattle.log_writes.proofs.Writing.{also}
+use Rattle.log_writes.proofs.Telling.{told_also}
 use Rattle.study_text.specs.Text.{refused_line}
 use Rattle.study_text.proofs.put_refused.Goals as goal
 
 pub returns : goal.returns
 unfolding refused_line
-returns c = rw (← c.number.ensures, ← c.from.ensures) (also c.put_field-to.ensures c.put.ensures)
+returns c = rw (← c.number.ensures, ← c.from.ensures) (told_also c.put_field.ensures c.put.ensures)
