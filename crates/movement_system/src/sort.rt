@@ -28,6 +28,7 @@ impl Model for SortedStops {
 }
 
 impl SortedStops {
+    // The stops are copied, so that a tick's loop may change the world beside them.
     pub fn new(stops: &Stops) -> SortedStops
         ensures { result ≡ stops.now }
     {
@@ -52,7 +53,8 @@ impl SortedStops {
     }
 
     // sorted.0[start..end]: the stops above the first threshold and below the second.
-    // Stays: the end is looked for one by one, since few stops are passed. By partition_point a tick of 16 cars takes 370 to 1,500 instructions more.
+    // Stays: the end is looked for one by one, since few stops are passed. By partition_point a tick of 16 cars takes 370, 1,020 or 1,500
+    // instructions more at 2, 16 or 64 stops, of 17,000 to 20,000.
     #[tactic(auto, using(crate::proofs::Emitting::start_within))]
     pub(crate) fn between(&self, from: f64, to: f64) -> &[u8]
         ensures { result.now ≡ Passing.between (order_of self.now) (Passing.start_of self.now.items (order_of self.now) from) (Passing.end_of self.now.items (order_of self.now) to) }
