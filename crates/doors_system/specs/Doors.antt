@@ -11,7 +11,8 @@ use Rattle.steps.specs.Steps.{line_of, Step, Run, step_of, not_opened, run_cars}
 use Rattle.door_commands.specs.Commands.{at_stop, has_rider_traversing, process_door_commands, command_words}
 use Rattle.door_commands.specs.declared.Work.{Work}
 use Rattle.door_ticks.specs.Ticks.{Turn, turned, stays, door_by, after}
-use Rattle.hall_calls.specs.Clearing.{Standing, standing_in, clear_to, clear_words_to}
+use Rattle.hall_calls.specs.declared.Calls.{Calls}
+use Rattle.hall_calls.specs.Clearing.{clear_to, clear_words_to}
 
 -- run, for one car: "queued commands, loop's next stop, then the door's tick"
 abbrev pub turn_by : ℕ → Car → Work → List ℕ → Option ℕ → Turn
@@ -43,8 +44,9 @@ door_of w i = step_by w (turn_on w i (car_at w.cars.items i) (line_of w.lines.it
 unfoldable pub doored : World → Run
 doored w = run_cars door_of w
 
-abbrev pub standing : World → Standing
-standing w = standing_in w.up_calls w.down_calls
+-- the calls standing in both directions
+abbrev pub standing : World → Calls
+standing w = record { up = w.up_calls; down = w.down_calls }
 
 abbrev pub cars_of : World → ℕ
 cars_of w = min w.cars.count 16
