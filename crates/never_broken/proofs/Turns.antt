@@ -123,17 +123,20 @@ module _ (lines stops i : ℕ) (c : Car) (h : CarIn lines stops c) where
   pub door_in : (here traversing : Bool) (next : Option ℕ) → stop_unloaded stops next ≡ false → Leaves (door_turn i c here traversing next)
   door_in here traversing next m =
       both Leaves c.enabled
-      (door_cases Leaves i c k next (λ d. rests_in k.doorway.phase d (commands_keep (λ p d. phase_unloaded stops p ≡ false) (λ a b. refl) (λ a. refl) (λ a b cd l. l) c here traversing h.phase))
+      (door_cases Leaves i k next (λ d. rests_in k.phase d (commands_keep (λ p d. phase_unloaded stops p ≡ false) (λ a b. refl) (λ a. refl) (λ a b cd l. l) c here traversing h.phase))
       (λ d. rests_in Loading d refl) (λ d. rests_in DoorClosing d refl)
-      (λ d. record { commands = few; line = h.line; phase = refl; target = refl; queue = h.queue })
-      (λ s d e. let l : unloaded stops s ≡ false = rw e at m in record { commands = few; line = h.line; phase = l; target = l; queue = h.queue }))
+      (λ d. record { commands = few; line = line; phase = refl; target = refl; queue = queue })
+      (λ s d e. let l : unloaded stops s ≡ false = rw e at m in record { commands = few; line = line; phase = l; target = l; queue = queue }))
       h
     where
-      k : Work
+      k : Car
       k = process_door_commands c here traversing
 
-      few : k.queue.count ≤ 8
+      few : k.door_command_queue.count ≤ 8
       few = few_stay c here traversing
 
-      rests_in : (p : ElevatorPhase) (d : DoorState) → phase_unloaded stops p ≡ false → CarIn lines stops (rested c k p d)
-      rests_in p d l = record { commands = few; line = h.line; phase = l; target = h.target; queue = h.queue }
+      kept : CarIn lines stops c → (e : k ≡ commanded c k.phase k.door k.door_command_queue) → (k.line < lines) × (stop_unloaded stops k.target_stop ≡ false) × QueueIn stops k.destination_queue.items k.destination_queue.count
+      kept f e = rw e (f.line, f.target, f.queue)
+
+      rests_in : (p : ElevatorPhase) (d : DoorState) → phase_unloaded stops p ≡ false → CarIn lines stops (rested k p d)
+      rests_in p d l = record { commands = few; line = line; phase = l; target = target; queue = queue }
