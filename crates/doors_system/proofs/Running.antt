@@ -3,11 +3,12 @@ use mathlib.Core.Path.{◌≡◌, refl, sym, ap, ◌∙◌}
 use mathlib.Core.Bool.{Bool, true, false, not, ◌&&◌, ◌||◌, cond, true≢false}
 use mathlib.Core.Logic.{◌⊎◌, ⊎_elim}
 use mathlib.Core.List.{List, []}
-use Prim.Native.Nat.{ℕ, ◌+◌, ◌<◌, ◌≤◌}
+use Prim.Native.Nat.{ℕ, ◌+◌, ◌<◌, ◌≤◌, min}
 use native.Mathlib.Numerals.{add-one}
 use native.Mathlib.Omega.{arith}
 use lib.Dec.{eqb}
-use lib.ListN.{get_or, set, get_or-replicate}
+use lib.ListN.{length, take, get_or, set, get_or-replicate}
+use Rattle.std.proofs.lemmas.List.{length-replicate, length-set}
 use lib.Seq.{get_or-set_other, set-get_or}
 use borrow.Author.Tests.{eqb-true}
 use Rattle.world.specs.World.{car_at}
@@ -34,6 +35,7 @@ use Rattle.hall_calls.specs.Clearing.{Clears, clear_to, clear_words_to}
 use Rattle.door.specs.declared.DoorCommand.{DoorCommand}
 use Rattle.world.specs.Tables.{Queue}
 use Rattle.hall_calls.specs.declared.Calls.{Calls}
+use Rattle.hall_calls.proofs.First.{first}
 use Rattle.door_commands.proofs.Working.{no_work, no_words, only}
 
 -- the first i cars' turns made by code: the world, the doors just opened, and what the log was told
@@ -149,9 +151,22 @@ passed {world = world} {w = w} {i = i} {opened = opened} k b h =
     same (more (step_of w (car_at w.cars.items i) [] not_opened) k (still_of w i h) told_none) refl (stepped_same w i)
     (opened_same opened i (ap (λ (os : List (Option JustOpened)). get_or os i not_opened) k.opens ∙ unopened door_of world i b i (omega arith)))
 
--- all cars' turns, then the hall calls
-pub ended : {world w : World} {l l' l'' : Log} {opened : List (Option JustOpened)} {r : Calls} → Runs door_of world l (cars_of world) w opened l'
-    → Clears (clear_to opened (standing world) (cars_of world)) (clear_words_to opened (standing world) (cars_of world)) l' l'' r
+-- a place for each car
+places : (turn : World → ℕ → Step) (w : World) (n : ℕ) → length (run_to turn w n).opened ≡ 16
+unfolding run_to
+places turn w n =
+    by_turns turn w (λ i r. length r.opened ≡ 16) n (length-replicate 16 not_opened)
+    (λ i l p. length-set (run_to turn w i).opened i (turn (run_to turn w i).world i).opened ∙ p) n (omega arith)
+
+-- all cars' turns, then the hall calls, by what the cars have opened
+pub ended : {world w : World} {l l' l'' : Log} {n : ℕ} {opened : List (Option JustOpened)} {calls r : Calls} → Runs door_of world l (cars_of world) w opened l'
+    → n ≡ cars_of world
+    → calls ≡ standing world
+    → Clears (clear_to (take n opened) calls (min (length (take n opened)) 16)) (clear_words_to (take n opened) calls (min (length (take n opened)) 16)) l' l'' r
     → (with_people w w.riders r.up r.down ≡ doors_world world) × Told l (doors_words world) l''
 unfolding doors_world doors_words doored run_cars
-ended k h = (rw (← k.left, ← k.opens, ← h.calls), rw (← k.opens) (told_also k.told h.told))
+ended {world = world} {l' = l'} {l'' = l''} {n = n} {opened = opened} {calls = calls} {r = r} k e f h =
+    let s : length opened ≡ 16 = ap length k.opens ∙ places door_of world (cars_of world) in
+    let g : Clears (clear_to opened calls n) (clear_words_to opened calls n) l' l'' r = first opened calls n (omega (arith, e)) (omega (arith, s, e)) h in
+    let c : Clears (clear_to opened (standing world) (cars_of world)) (clear_words_to opened (standing world) (cars_of world)) l' l'' r = rw (← e, ← f) g in
+    (rw (← k.left, ← k.opens, ← c.calls), rw (← k.opens) (told_also k.told c.told))
