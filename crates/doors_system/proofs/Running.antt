@@ -61,20 +61,18 @@ pub more : {turn : World → ℕ → Step} {world w : World} {l l' l'' : Log} {i
 unfolding run_to
 more s k e h = record { left = rw (add-one, ← k.left, e); opens = rw (add-one, ← k.left, e, ← k.opens); told = rw (add-one, ← k.left, e) (told_also k.told h) }
 -- a turn that is skipped, and one that is not
-out : (b : Bool) (t u : Turn) {l l' : Log} {d : Car} {o : Option JustOpened} → not b ≡ true → Turns u l l' d o → Turns (cond b t u) l l' d o
-out true t u e h = absurd (true≢false (sym e))
-out false t u e h = h
+out : (b : Bool) (t u : Turn) {l l' : Log} {d : Car} {o : Option JustOpened} → b ≡ false → Turns u l l' d o → Turns (cond b t u) l l' d o
+out b t u e h = rw e h
 
-on : (b : Bool) (t u : Turn) {l l' : Log} {d : Car} {o : Option JustOpened} → not b ≡ false → Turns t l l' d o → Turns (cond b t u) l l' d o
-on true t u e h = h
-on false t u e h = absurd (true≢false e)
+on : (b : Bool) (t u : Turn) {l l' : Log} {d : Car} {o : Option JustOpened} → b ≡ true → Turns t l l' d o → Turns (cond b t u) l l' d o
+on b t u e h = rw e h
 
 module _ (c : Car) (i : ℕ) (a traversing : Bool) where
-  pub skipped : (next : Option ℕ) {l : Log} → not c.enabled ≡ true → Turns (door_turn i c a traversing next) l l c not_opened
+  pub skipped : (next : Option ℕ) {l : Log} → c.enabled ≡ false → Turns (door_turn i c a traversing next) l l c not_opened
   skipped next e = out c.enabled _ _ e (record { car = refl; told = told_none; opens = refl })
 
   -- it is that of the car as its commands left it, where it stood
-  pub worked_off : (line : Line) (stops : List Float) {k d : Car} {l l' l'' : Log} {o : Option JustOpened} → not c.enabled ≡ false → Works c a traversing i l l' k
+  pub worked_off : (line : Line) (stops : List Float) {k d : Car} {l l' l'' : Log} {o : Option JustOpened} → c.enabled ≡ true → Works c a traversing i l l' k
       → Turns (door_by i k (loop_next_stop_for_car line stops k.motion.position)) l' l'' d o
       → Turns (door_turn i c a traversing (loop_next_stop_for_car line stops c.motion.position)) l l'' d o
   worked_off line stops {k} e w h =

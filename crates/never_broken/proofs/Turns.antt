@@ -27,12 +27,11 @@ use Rattle.arrival.specs.Arrival.{shifted, popped}
 use Rattle.movement_system.specs.Movement.{move_of}
 use Rattle.movement_system.proofs.Cases.{move_cases}
 use Rattle.door_commands.specs.Commands.{process_door_commands}
-use Rattle.door_commands.proofs.Working.{few_stay}
+use Rattle.door_commands.proofs.Working.{few_stay, only}
 use Rattle.door_commands.proofs.Keeping.{commands_keep}
 use Rattle.doors_system.specs.Doors.{door_turn}
 use Rattle.door_ticks.specs.Ticks.{Turn, rested}
 use Rattle.door_ticks.proofs.Cases.{door_cases}
-use Rattle.door_commands.specs.declared.Work.{Work}
 use Rattle.laws.proofs.Choices.{both}
 use Rattle.never_broken.proofs.Numbers.{still_loaded, stop_stays, phase_stays, listed}
 
@@ -125,8 +124,8 @@ module _ (lines stops i : ℕ) (c : Car) (h : CarIn lines stops c) where
       both Leaves c.enabled
       (door_cases Leaves i k next (λ d. rests_in k.phase d (commands_keep (λ p d. phase_unloaded stops p ≡ false) (λ a b. refl) (λ a. refl) (λ a b cd l. l) c here traversing h.phase))
       (λ d. rests_in Loading d refl) (λ d. rests_in DoorClosing d refl)
-      (λ d. record { commands = few; line = line; phase = refl; target = refl; queue = queue })
-      (λ s d e. let l : unloaded stops s ≡ false = rw e at m in record { commands = few; line = line; phase = l; target = l; queue = queue }))
+      (λ d. record { commands = few; line = rest.0; phase = refl; target = refl; queue = rest.2 })
+      (λ s d e. let l : unloaded stops s ≡ false = rw e at m in record { commands = few; line = rest.0; phase = l; target = l; queue = rest.2 }))
       h
     where
       k : Car
@@ -135,8 +134,9 @@ module _ (lines stops i : ℕ) (c : Car) (h : CarIn lines stops c) where
       few : k.door_command_queue.count ≤ 8
       few = few_stay c here traversing
 
-      kept : CarIn lines stops c → (e : k ≡ commanded c k.phase k.door k.door_command_queue) → (k.line < lines) × (stop_unloaded stops k.target_stop ≡ false) × QueueIn stops k.destination_queue.items k.destination_queue.count
-      kept f e = rw e (f.line, f.target, f.queue)
+      -- what the commands leave alone
+      rest : (k.line < lines) × (stop_unloaded stops k.target_stop ≡ false) × QueueIn stops k.destination_queue.items k.destination_queue.count
+      rest = rw (only c here traversing) (h.line, h.target, h.queue)
 
       rests_in : (p : ElevatorPhase) (d : DoorState) → phase_unloaded stops p ≡ false → CarIn lines stops (rested k p d)
-      rests_in p d l = record { commands = few; line = line; phase = l; target = target; queue = queue }
+      rests_in p d l = record { commands = few; line = rest.0; phase = l; target = rest.1; queue = rest.2 }
