@@ -20,7 +20,8 @@ use Rattle.read_back.proofs.Reading.{kind_tick}
 use Rattle.steps.specs.declared.JustOpened.{JustOpened}
 use Rattle.movement_system.specs.Movement.{move_of, moved}
 use Rattle.doors_system.specs.Doors.{standing, cars_of, door_of, doored, doors_world, doors_words}
-use Rattle.hall_calls.specs.Clearing.{Standing, clears, clear_word, clear_matching_words, opened_of, clear_to, clear_words_to}
+use Rattle.hall_calls.specs.declared.Calls.{Calls}
+use Rattle.hall_calls.specs.Clearing.{clears, clear_word, clear_matching_words, opened_of, clear_to, clear_words_to}
 use Rattle.tick.specs.Tick.{tick_world, tick_words}
 use Rattle.tick.specs.Counters.{moves_in, sum_to, count_of, Low, Counts, NothingWraps}
 use Rattle.laws.proofs.Choices.{both}
@@ -56,7 +57,7 @@ doored_ran n w log = run_ran door_of Stands (λ c. refl) (λ a b c p q. q ∙ p)
 -- ---- the hall calls' words say nothing of a door
 
 module _ (i : ℕ) (o : Bool) where
-  match_told : (j : Option JustOpened) (n : ℕ) (h : Standing) → Told i o o (clear_matching_words j n h)
+  match_told : (j : Option JustOpened) (n : ℕ) (h : Calls) → Told i o o (clear_matching_words j n h)
   unfolding clear_word
   match_told None n h = told_none i o
   match_told (Some j) n h =
@@ -64,7 +65,7 @@ module _ (i : ℕ) (o : Bool) where
       (both (Told i o o) (clears h.up j.stop j.lamps.going_up) (told_dull i o 9 n j.stop (bit false) refl refl refl) (told_none i o))
       (both (Told i o o) (clears h.down j.stop j.lamps.going_down) (told_dull i o 9 n j.stop (bit true) refl refl refl) (told_none i o))
 
-  calls_told : (os : List (Option JustOpened)) (h : Standing) (n : ℕ) → Told i o o (clear_words_to os h n)
+  calls_told : (os : List (Option JustOpened)) (h : Calls) (n : ℕ) → Told i o o (clear_words_to os h n)
   unfolding clear_words_to
   calls_told os h zero = told_none i o
   calls_told os h (suc n) = told_join (calls_told os h n) (match_told (opened_of os h n) n (clear_to os h n))

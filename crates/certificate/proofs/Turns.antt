@@ -28,12 +28,12 @@ use Rattle.trips.specs.declared.Trip.{Trip}
 use Rattle.movement_system.specs.Passing.{passing_words}
 use Rattle.movement_system.specs.Movement.{move_of}
 use Rattle.movement_system.proofs.Cases.{move_cases}
-use Rattle.door_commands.specs.Commands.{queued, tried_on, applied_words, work_to, work_words_to, process_door_commands, command_words}
+use Rattle.door_commands.specs.Commands.{queued, try_apply_command, applied_words, work_to, work_words_to, process_door_commands, command_words}
 use Rattle.door_commands.proofs.Keeping.{commands_keep}
 use Rattle.doors_system.specs.Doors.{door_turn, door_of}
-use Rattle.door_ticks.specs.Ticks.{Turn, departed_from, finished_opening, finished_closing, finish_by, rests, door_by}
+use Rattle.door_ticks.specs.Ticks.{Turn, departed_from, finished_opening, finished_closing, finish_by, rested, rests, door_by}
 use Rattle.door_ticks.proofs.Cases.{door_cases}
-use Rattle.door_commands.specs.declared.Work.{Work}
+use Rattle.door_commands.proofs.Working.{only}
 use Rattle.door_commands.specs.declared.Doorway.{Doorway}
 use Rattle.laws.proofs.Choices.{both}
 use Rattle.certificate.proofs.Watch.{Told, Silent, told_none, told_join, told_dull, told_word, told_other}
@@ -137,7 +137,7 @@ module _ (w : World) (i : ℕ) (o : Bool) (low : i < 16) (f : Fit (car_at w.cars
 -- ---- door commands
 
 commands_sound : (c : Car) (at traversing : Bool) (o : Bool) → Sound c.phase c.door o
-    → Sound (process_door_commands c at traversing).doorway.phase (process_door_commands c at traversing).doorway.door o
+    → Sound (process_door_commands c at traversing).phase (process_door_commands c at traversing).door o
 commands_sound c at traversing o = commands_keep (λ p d. Sound p d o) (λ a b. opening) (λ a. closing) (λ a b cd s. loading) c at traversing
 
 applied_told : (n : ℕ) (o : Bool) (i : ℕ) (q : DoorCommand) (t : Option Doorway) → Told n o o (applied_words i q t)
@@ -149,7 +149,7 @@ unfolding work_words_to
 words_told n o c at traversing i zero = told_none n o
 words_told n o c at traversing i (suc m) =
     let q : DoorCommand = queued c at traversing m in
-    told_join (words_told n o c at traversing i m) (applied_told n o i q (tried_on c at traversing (work_to c at traversing m) q))
+    told_join (words_told n o c at traversing i m) (applied_told n o i q (try_apply_command q (work_to c at traversing m) at traversing))
 
 -- ---- the door's tick
 
@@ -158,44 +158,43 @@ departed_told n o None i = told_none n o
 departed_told n o (Some s) i = told_dull n o 8 i s 0 refl refl refl
 
 -- the words of a car whose door has closed, by the first
-closed_told : {n : ℕ} {o o' : Bool} (i : ℕ) (c : Car) (k : Work) (next : Option ℕ) (d : DoorState) → Told n o o' (word 7 i 0 0 ∷ [])
-    → Told n o o' (finished_closing next i c k d).words
-closed_told {n} {o} {o'} i c k None d t = told_join t (lamps_told n o' i c.lamps both_lit)
-closed_told {n} {o} {o'} i c k (Some s) d t = told_join t (told_join (lamps_told n o' i c.lamps unlit) (departed_told n o' c.target_stop i))
+closed_told : {n : ℕ} {o o' : Bool} (i : ℕ) (c : Car) (next : Option ℕ) → Told n o o' (word 7 i 0 0 ∷ []) → Told n o o' (finished_closing next i c).words
+closed_told {n} {o} {o'} i c None t = told_join t (lamps_told n o' i c.lamps both_lit)
+closed_told {n} {o} {o'} i c (Some s) t = told_join t (told_join (lamps_told n o' i c.lamps unlit) (departed_told n o' c.target_stop i))
 
-module _ (i : ℕ) (low : i < 16) (c : Car) (tame : is_manual c.service_mode ≡ false) (k : Work) where
+module _ (i : ℕ) (low : i < 16) (c : Car) (tame : is_manual c.service_mode ≡ false) where
   abbrev Turns : Bool → Turn → Type 0
   Turns o t = Good i o t.car t.words
 
-  rests_good : (o : Bool) (p : ElevatorPhase) (d : DoorState) → Sound p d o → Turns o (rests c k p d)
+  rests_good : (o : Bool) (p : ElevatorPhase) (d : DoorState) → Sound p d o → Turns o (rests (rested c p d))
   rests_good o p d s = record { end = o; told = told_none i o; fit = record { sound = s; tame = tame } }
 
-  opened_good : (o : Bool) (od cd : ℕ) → Turns o (finished_opening i c k (Open od cd))
+  opened_good : (o : Bool) (od cd : ℕ) → Turns o (finished_opening i (rested c c.phase (Open od cd)))
   opened_good o od cd = record { end = true; told = told_word i low 6 0 0 (λ h. no h) refl; fit = record { sound = loading; tame = tame } }
 
-  closed_good : (o : Bool) (next : Option ℕ) → Turns o (finished_closing next i c k Closed)
-  closed_good o next = record { end = false; told = closed_told i c k next Closed (told_word i low 7 0 0 (λ h. no h) refl); fit = fit next }
+  closed_good : (o : Bool) (next : Option ℕ) → Turns o (finished_closing next i (rested c c.phase Closed))
+  closed_good o next = record { end = false; told = closed_told i (rested c c.phase Closed) next (told_word i low 7 0 0 (λ h. no h) refl); fit = fit next }
     where
-      fit : (next : Option ℕ) → Fit (finished_closing next i c k Closed).car false
+      fit : (next : Option ℕ) → Fit (finished_closing next i (rested c c.phase Closed)).car false
       fit None = record { sound = stopped; tame = tame }
       fit (Some s) = record { sound = moving; tame = tame }
 
-  door_by_lem : (next : Option ℕ) (p : ElevatorPhase) (d : DoorState) (o : Bool) → Sound p d o → Turns o (door_by p d i c k next)
+  door_by_lem : (next : Option ℕ) (p : ElevatorPhase) (d : DoorState) (o : Bool) → Sound p d o → Turns o (door_by i (rested c p d) next)
   door_by_lem next p d o idle = rests_good false Idle Closed idle
   door_by_lem next p d o stopped = rests_good false Stopped Closed stopped
   door_by_lem next p d o (moving {s}) = rests_good false (MovingToStop s) Closed moving
   door_by_lem next p d o (repositioning {s}) = rests_good false (Repositioning s) Closed repositioning
   door_by_lem next p d o (opening {t} {od} {cd} {o = b}) =
       both (Turns b) (is_inspection c.service_mode && false) (rests_good b DoorOpening (Opening t od cd) opening)
-      (both (λ (y : Ticked). Turns b (finish_by y.transition DoorOpening y.door i c k next)) (leb t 1) (opened_good b od cd)
+      (both (λ (y : Ticked). Turns b (finish_by y.transition i (rested c DoorOpening y.door) next)) (leb t 1) (opened_good b od cd)
       (rests_good b DoorOpening (Opening (t - 1) od cd) opening))
   door_by_lem next p d o (loading {t} {cd} {o = b}) =
       both (Turns b) (is_inspection c.service_mode && true) (rests_good b Loading (Open t cd) loading)
-      (both (λ (y : Ticked). Turns b (finish_by y.transition Loading y.door i c k next)) (leb t 1) (rests_good b DoorClosing (Closing cd) closing)
+      (both (λ (y : Ticked). Turns b (finish_by y.transition i (rested c Loading y.door) next)) (leb t 1) (rests_good b DoorClosing (Closing cd) closing)
       (rests_good b Loading (Open (t - 1) cd) loading))
   door_by_lem next p d o (closing {t} {o = b}) =
       both (Turns b) (is_inspection c.service_mode && false) (rests_good b DoorClosing (Closing t) closing)
-      (both (λ (y : Ticked). Turns b (finish_by y.transition DoorClosing y.door i c k next)) (leb t 1) (closed_good b next)
+      (both (λ (y : Ticked). Turns b (finish_by y.transition i (rested c DoorClosing y.door) next)) (leb t 1) (closed_good b next)
       (rests_good b DoorClosing (Closing (t - 1)) closing))
 
 -- words before a turn
@@ -206,10 +205,11 @@ door_turn_lem : (i : ℕ) (low : i < 16) (c : Car) (at traversing : Bool) (next 
     → Good i o (door_turn i c at traversing next).car (door_turn i c at traversing next).words
 unfolding command_words
 door_turn_lem i low c at traversing next o f =
-    let k : Work = process_door_commands c at traversing in
+    let k : Car = process_door_commands c at traversing in
+    let tame : is_manual k.service_mode ≡ false = ap (λ (x : Car). is_manual x.service_mode) (only c at traversing) ∙ f.tame in
     both (λ (t : Turn). Good i o t.car t.words) c.enabled
     (after_good (words_told i o c at traversing i (min c.door_command_queue.count 8))
-    (door_by_lem i low c f.tame k next k.doorway.phase k.doorway.door o (commands_sound c at traversing o f.sound)))
+    (door_by_lem i low k tame next k.phase k.door o (commands_sound c at traversing o f.sound)))
     (still i o c f)
 
 pub door_good : (w : World) (i : ℕ) (o : Bool) → i < 16 → Fit (car_at w.cars.items i) o → Good i o (door_of w i).car (door_of w i).words
@@ -220,13 +220,13 @@ door_good w i o low f = door_turn_lem i low (car_at w.cars.items i) _ _ _ o f
 turn_silent : (i n : ℕ) → i < 16 → (n ≡ i → ⊥) → (c : Car) (at traversing : Bool) (next : Option ℕ) → Silent n (door_turn i c at traversing next).words
 unfolding command_words
 turn_silent i n low other c at traversing next o =
-    let k : Work = process_door_commands c at traversing in
+    let k : Car = process_door_commands c at traversing in
     let Says : Turn → Type 0 = λ t. Told n o o t.words in
     let none : (d : DoorState) → Told n o o [] = λ d. told_none n o in
     both Says c.enabled
     (told_join (words_told n o c at traversing i (min c.door_command_queue.count 8))
-    (door_cases Says i c k next none (λ d. told_other n i low other 6 0 0 o) none (λ d. closed_told i c k None d (told_other n i low other 7 0 0 o))
-    (λ s d e. closed_told i c k (Some s) d (told_other n i low other 7 0 0 o))))
+    (door_cases Says i k next none (λ d. told_other n i low other 6 0 0 o) none (λ d. closed_told i (rested k k.phase d) None (told_other n i low other 7 0 0 o))
+    (λ s d e. closed_told i (rested k k.phase d) (Some s) (told_other n i low other 7 0 0 o))))
     (told_none n o)
 
 pub door_silent : (w : World) (i n : ℕ) → i < 16 → (n ≡ i → ⊥) → Silent n (door_of w i).words
@@ -237,8 +237,8 @@ door_silent w i n low other = turn_silent i n low other (car_at w.cars.items i) 
 turn_stands : (i : ℕ) (c : Car) (at traversing : Bool) (next : Option ℕ) → (door_turn i c at traversing next).car.motion ≡ c.motion
 turn_stands i c at traversing next =
     let Stands : Turn → Type 0 = λ t. t.car.motion ≡ c.motion in
-    both Stands c.enabled
-    (door_cases Stands i c (process_door_commands c at traversing) next (λ d. refl) (λ d. refl) (λ d. refl) (λ d. refl) (λ s d e. refl)) refl
+    let m : (process_door_commands c at traversing).motion ≡ c.motion = ap (λ (x : Car). x.motion) (only c at traversing) in
+    both Stands c.enabled (door_cases Stands i (process_door_commands c at traversing) next (λ d. m) (λ d. m) (λ d. m) (λ d. m) (λ s d e. m)) refl
 
 pub door_stands : (w : World) (i : ℕ) → (door_of w i).car.motion ≡ (car_at w.cars.items i).motion
 unfolding door_of

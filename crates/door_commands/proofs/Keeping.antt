@@ -10,11 +10,10 @@ use Rattle.world.specs.declared.Car.{Car}
 use Rattle.world.specs.declared.ElevatorPhase.{ElevatorPhase}
 use Rattle.world.specs.declared.ElevatorPhase.TheVariants.{Idle, MovingToStop, Repositioning, DoorOpening, Loading, DoorClosing, Stopped}
 use Rattle.laws.proofs.Choices.{both}
-use Rattle.door_commands.specs.Commands.{apply_open, apply_close, held, apply_hold, unheld, apply_cancel_hold, try_apply_command, queued, tried_on, worked, work_to, process_door_commands}
+use Rattle.door_commands.specs.Commands.{apply_open, apply_close, held, apply_hold, unheld, apply_cancel_hold, try_apply_command, queued, worked, work_to, process_door_commands}
 use Rattle.door_commands.specs.declared.Doorway.{Doorway}
 use Rattle.std.specs.declared.option.Option.{Option}
 use Rattle.std.specs.declared.option.Option.TheVariants.{None, Some}
-use Rattle.door_commands.specs.declared.Work.{Work}
 
 module _
     (Has : ElevatorPhase → DoorState → Type 0)
@@ -77,26 +76,33 @@ module _
     cancel_keeps DoorClosing d h = h
     cancel_keeps Stopped d h = h
 
-    try_keeps : (q : DoorCommand) (p : ElevatorPhase) (d : DoorState) → Has p d → Keeps (try_apply_command q p d c here traversing)
-    try_keeps Command.Open p d h = open_keeps p d h
-    try_keeps Command.Close p d h = close_keeps p d h
-    try_keeps (Command.HoldOpen ticks) p d h = hold_keeps p d ticks h
-    try_keeps Command.CancelHold p d h = cancel_keeps p d h
+    try_keeps : (q : DoorCommand) → Has c.phase c.door → Keeps (try_apply_command q c here traversing)
+    try_keeps Command.Open h = open_keeps c.phase c.door h
+    try_keeps Command.Close h = close_keeps c.phase c.door h
+    try_keeps (Command.HoldOpen ticks) h = hold_keeps c.phase c.door ticks h
+    try_keeps Command.CancelHold h = cancel_keeps c.phase c.door h
 
-    worked_keeps : (k : Work) (q : DoorCommand) (t : Option Doorway) → Has k.doorway.phase k.doorway.door → Keeps t
-        → Has (worked k q t).doorway.phase (worked k q t).doorway.door
-    worked_keeps k q None h g = h
-    worked_keeps k q (Some d) h g = g
+    worked_keeps : (q : DoorCommand) (t : Option Doorway) → Has c.phase c.door → Keeps t → Has (worked c q t).phase (worked c q t).door
+    worked_keeps q None h g = h
+    worked_keeps q (Some d) h g = g
 
-    work_keeps : (n : ℕ) → Has c.phase c.door → Has (work_to c here traversing n).doorway.phase (work_to c here traversing n).doorway.door
+module _
+    (Has : ElevatorPhase → DoorState → Type 0)
+    (opening : (a b : ℕ) → Has DoorOpening (request_open a b))
+    (closing : (a : ℕ) → Has DoorClosing (Closing a))
+    (longer : (a b cd : ℕ) → Has Loading (Open a cd) → Has Loading (Open b cd))
+    (c : Car)
+    (here traversing : Bool)
+  where
+    work_keeps : (n : ℕ) → Has c.phase c.door → Has (work_to c here traversing n).phase (work_to c here traversing n).door
     unfolding work_to
     work_keeps zero h = h
     work_keeps (suc n) h =
-        let k : Work = work_to c here traversing n in
+        let k : Car = work_to c here traversing n in
         let q : DoorCommand = queued c here traversing n in
-        let g : Has k.doorway.phase k.doorway.door = work_keeps n h in
-        worked_keeps k q (tried_on c here traversing k q) g (try_keeps q k.doorway.phase k.doorway.door g)
+        let g : Has k.phase k.door = work_keeps n h in
+        worked_keeps Has opening closing longer k here traversing q (try_apply_command q k here traversing) g (try_keeps Has opening closing longer k here traversing q g)
 
-    pub commands_keep : Has c.phase c.door → Has (process_door_commands c here traversing).doorway.phase (process_door_commands c here traversing).doorway.door
+    pub commands_keep : Has c.phase c.door → Has (process_door_commands c here traversing).phase (process_door_commands c here traversing).door
     unfolding process_door_commands
     commands_keep = work_keeps (min c.door_command_queue.count 8)

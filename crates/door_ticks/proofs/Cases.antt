@@ -10,30 +10,28 @@ use Rattle.world.specs.declared.ElevatorPhase.TheVariants.{DoorClosing}
 use Rattle.std.specs.declared.option.Option.{Option}
 use Rattle.std.specs.declared.option.Option.TheVariants.{None, Some}
 use Rattle.laws.proofs.Choices.{both}
-use Rattle.door_commands.specs.declared.Work.{Work}
-use Rattle.door_ticks.specs.Ticks.{Turn, rests, finished_opening, finished_closing, finish_by, stays, door_by}
+use Rattle.door_ticks.specs.Ticks.{Turn, rested, rests, finished_opening, finished_closing, finish_by, stays, door_by}
 
 module _
     (P : Turn → Type 0)
     (i : ℕ)
     (c : Car)
-    (k : Work)
     (next : Option ℕ)
-    (waits : (d : DoorState) → P (rests c k k.doorway.phase d))
-    (opened : (d : DoorState) → P (finished_opening i c k d))
-    (closing : (d : DoorState) → P (rests c k DoorClosing d))
-    (stops : (d : DoorState) → P (finished_closing None i c k d))
-    (departs : (s : ℕ) (d : DoorState) → next ≡ Some s → P (finished_closing (Some s) i c k d))
+    (waits : (d : DoorState) → P (rests (rested c c.phase d)))
+    (opened : (d : DoorState) → P (finished_opening i (rested c c.phase d)))
+    (closing : (d : DoorState) → P (rests (rested c DoorClosing d)))
+    (stops : (d : DoorState) → P (finished_closing None i (rested c c.phase d)))
+    (departs : (s : ℕ) (d : DoorState) → next ≡ Some s → P (finished_closing (Some s) i (rested c c.phase d)))
   where
-    closed : (n : Option ℕ) (d : DoorState) → next ≡ n → P (finished_closing n i c k d)
+    closed : (n : Option ℕ) (d : DoorState) → next ≡ n → P (finished_closing n i (rested c c.phase d))
     closed None d e = stops d
     closed (Some s) d e = departs s d e
 
-    finished : (t : DoorTransition) (d : DoorState) → P (finish_by t k.doorway.phase d i c k next)
+    finished : (t : DoorTransition) (d : DoorState) → P (finish_by t i (rested c c.phase d) next)
     finished Transition.None d = waits d
     finished Transition.FinishedOpening d = opened d
     finished Transition.FinishedOpen d = closing d
     finished Transition.FinishedClosing d = closed next d refl
 
-    pub door_cases : P (door_by k.doorway.phase k.doorway.door i c k next)
-    door_cases = both P (stays k.doorway.phase k.doorway.door c) (waits k.doorway.door) (finished (tick k.doorway.door).transition (tick k.doorway.door).door)
+    pub door_cases : P (door_by i c next)
+    door_cases = both P (stays c) (waits c.door) (finished (tick c.door).transition (tick c.door).door)

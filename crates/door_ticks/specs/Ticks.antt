@@ -16,8 +16,6 @@ use Rattle.log_words.specs.declared.Event.TheVariants.{DoorOpened, DoorClosed, E
 use Rattle.steps.specs.Steps.{is_inspection, both_lit, unlit, update_indicators, not_opened}
 use Rattle.world.specs.With.{with_door}
 use Rattle.steps.specs.declared.JustOpened.{JustOpened}
-use Rattle.door_commands.specs.declared.Work.{Work}
-use Rattle.door_ticks.specs.declared.Turned.{Turned}
 
 abbrev pub is_door_opening : ElevatorPhase → Bool
 is_door_opening Idle = false
@@ -37,12 +35,13 @@ pub record Turn : Type 0 where
 abbrev pub turned : Car → List ℕ → Option JustOpened → Turn
 turned c words opened = record { car = c; words = words; opened = opened }
 
--- the car as its commands left it, with a phase and a door
-abbrev pub rested : Car → Work → ElevatorPhase → DoorState → Car
-rested c k phase door = with_door c phase door c.target_stop c.lamps c.going_forward k.queue
+-- without a word or a door just opened
+abbrev pub rests : Car → Turn
+rests c = turned c [] not_opened
 
-abbrev pub rests : Car → Work → ElevatorPhase → DoorState → Turn
-rests c k phase door = turned (rested c k phase door) [] not_opened
+-- the car with a phase and a door
+abbrev pub rested : Car → ElevatorPhase → DoorState → Car
+rested c phase door = with_door c phase door c.target_stop c.lamps c.going_forward c.door_command_queue
 
 -- run, FinishedOpening: what goes into just_opened
 abbrev pub opened_at : Option ℕ → Car → Option JustOpened
@@ -55,43 +54,42 @@ departed_from None i = []
 departed_from (Some s) i = word_of (ElevatorDeparted i s) ∷ []
 
 -- run, FinishedClosing: by the loop's next stop
-abbrev pub finished_closing : Option ℕ → ℕ → Car → Work → DoorState → Turn
-finished_closing (Some next) i c k door =
+abbrev pub finished_closing : Option ℕ → ℕ → Car → Turn
+finished_closing (Some next) i c =
     turned
-    (with_door c (MovingToStop next) door (Some next) unlit true k.queue)
+    (with_door c (MovingToStop next) c.door (Some next) unlit true c.door_command_queue)
     (word_of (DoorClosed i) ∷ (update_indicators i c.lamps unlit ++ departed_from c.target_stop i))
     not_opened
-finished_closing None i c k door =
+finished_closing None i c =
     turned
-    (with_door c Stopped door None both_lit c.going_forward k.queue)
+    (with_door c Stopped c.door None both_lit c.going_forward c.door_command_queue)
     (word_of (DoorClosed i) ∷ update_indicators i c.lamps both_lit)
     not_opened
 
 -- run, FinishedOpening
-abbrev pub finished_opening : ℕ → Car → Work → DoorState → Turn
-finished_opening i c k door = turned (rested c k Loading door) (word_of (DoorOpened i) ∷ []) (opened_at c.target_stop c)
+abbrev pub finished_opening : ℕ → Car → Turn
+finished_opening i c = turned (rested c Loading c.door) (word_of (DoorOpened i) ∷ []) (opened_at c.target_stop c)
 
--- run, `match transition`
-abbrev pub finish_by : DoorTransition → ElevatorPhase → DoorState → ℕ → Car → Work → Option ℕ → Turn
-finish_by FinishedOpening phase door i c k next = finished_opening i c k door
-finish_by FinishedOpen phase door i c k next = rests c k DoorClosing door
-finish_by FinishedClosing phase door i c k next = finished_closing next i c k door
-finish_by Transition.None phase door i c k next = rests c k phase door
+-- run, `match transition`: of the car whose door's tick has made it
+abbrev pub finish_by : DoorTransition → ℕ → Car → Option ℕ → Turn
+finish_by FinishedOpening i c next = finished_opening i c
+finish_by FinishedOpen i c next = rests (rested c DoorClosing c.door)
+finish_by FinishedClosing i c next = finished_closing next i c
+finish_by Transition.None i c next = rests c
 
 -- run, its two tests that leave the door's tick out
-abbrev pub stays : ElevatorPhase → DoorState → Car → Bool
-stays phase door c = (is_closed door && not (is_door_opening phase)) || (is_inspection c.service_mode && is_open door)
+abbrev pub stays : Car → Bool
+stays c = (is_closed c.door && not (is_door_opening c.phase)) || (is_inspection c.service_mode && is_open c.door)
 
--- run, after the commands: by the phase and door that they left
-abbrev pub door_by : ElevatorPhase → DoorState → ℕ → Car → Work → Option ℕ → Turn
-door_by phase door i c k next =
-    cond (stays phase door c) (rests c k phase door) (finish_by (tick door).transition phase (tick door).door i c k next)
+-- run, after the commands: the car is as they left it
+abbrev pub door_by : ℕ → Car → Option ℕ → Turn
+door_by i c next = cond (stays c) (rests c) (finish_by (tick c.door).transition i (rested c c.phase (tick c.door).door) next)
 
 -- a turn made by code: the car, what it told the log, a door just opened
-pub record Turns (t : Turn) (l : Log) (l' : Log) (r : Turned) : Type 0 where
-  pub car : r.car ≡ t.car
+pub record Turns (t : Turn) (l : Log) (l' : Log) (c : Car) (opened : Option JustOpened) : Type 0 where
+  pub car : c ≡ t.car
   pub told : Told l t.words l'
-  pub opened : r.opened ≡ t.opened
+  pub opens : opened ≡ t.opened
 
 -- a turn after words of its own
 abbrev pub after : List ℕ → Turn → Turn

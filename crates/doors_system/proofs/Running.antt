@@ -3,11 +3,12 @@ use mathlib.Core.Path.{◌≡◌, refl, sym, ap, ◌∙◌}
 use mathlib.Core.Bool.{Bool, true, false, not, ◌&&◌, ◌||◌, cond, true≢false}
 use mathlib.Core.Logic.{◌⊎◌, ⊎_elim}
 use mathlib.Core.List.{List, []}
-use Prim.Native.Nat.{ℕ, ◌+◌, ◌<◌, ◌≤◌}
+use Prim.Native.Nat.{ℕ, ◌+◌, ◌<◌, ◌≤◌, min}
 use native.Mathlib.Numerals.{add-one}
 use native.Mathlib.Omega.{arith}
 use lib.Dec.{eqb}
-use lib.ListN.{get_or, set, get_or-replicate}
+use lib.ListN.{length, take, get_or, set, get_or-replicate}
+use Rattle.std.proofs.lemmas.List.{length-replicate, length-set}
 use lib.Seq.{get_or-set_other, set-get_or}
 use borrow.Author.Tests.{eqb-true}
 use Rattle.world.specs.World.{car_at}
@@ -15,6 +16,9 @@ use Rattle.world.specs.With.{with_people}
 use Rattle.world.specs.declared.World.{World}
 use Rattle.world.specs.declared.Car.{Car}
 use Rattle.world.specs.declared.Line.{Line}
+use Rattle.world.specs.declared.Motion.{Motion}
+use lib.Ieee.{Float}
+use Rattle.door_ticks.proofs.Turning.{then}
 use Rattle.std.specs.declared.option.Option.{Option}
 use Rattle.next_stop.specs.NextStop.{loop_next_stop_for_car}
 use Rattle.log_writes.specs.Told.{Told, Log}
@@ -23,16 +27,15 @@ use Rattle.steps.specs.Steps.{Step, line_of, not_opened, step_of, stepped, run_t
 use Rattle.steps.proofs.Cars.{by_turns, stepped_same}
 use Rattle.world.specs.With.{with_door}
 use Rattle.steps.specs.declared.JustOpened.{JustOpened}
-use Rattle.door_commands.specs.Commands.{at_stop, has_rider_traversing, unworked, process_door_commands, command_words}
+use Rattle.door_commands.specs.Commands.{at_stop, has_rider_traversing, unworked, commanded, Works, process_door_commands, command_words}
 use Rattle.doors_system.specs.Doors.{turn_by, door_turn, has_turn, turn_on, step_by, door_of, doored, standing, cars_of, doors_world, doors_words}
-use Rattle.door_ticks.specs.Ticks.{Turn, turned, rested, stays, Turns}
+use Rattle.door_ticks.specs.Ticks.{Turn, rests, stays, door_by, Turns}
 use Rattle.hall_calls.specs.Clearing.{Clears, clear_to, clear_words_to}
-use Rattle.door_commands.specs.declared.Work.{Work}
 use Rattle.door.specs.declared.DoorCommand.{DoorCommand}
 use Rattle.world.specs.Tables.{Queue}
-use Rattle.door_ticks.specs.declared.Turned.{Turned}
 use Rattle.hall_calls.specs.declared.Calls.{Calls}
-use Rattle.door_commands.proofs.Working.{no_work, no_words}
+use Rattle.hall_calls.proofs.First.{first}
+use Rattle.door_commands.proofs.Working.{no_work, no_words, only}
 
 -- the first i cars' turns made by code: the world, the doors just opened, and what the log was told
 pub record Runs (turn : World → ℕ → Step) (world : World) (l : Log) (i : ℕ) (w : World) (opened : List (Option JustOpened)) (l' : Log) : Type 0 where
@@ -56,36 +59,47 @@ pub more : {turn : World → ℕ → Step} {world w : World} {l l' l'' : Log} {i
     → Runs turn world l (i + 1) (stepped w i s) (set opened i s.opened) l''
 unfolding run_to
 more s k e h = record { left = rw (add-one, ← k.left, e); opens = rw (add-one, ← k.left, e, ← k.opens); told = rw (add-one, ← k.left, e) (told_also k.told h) }
-
 -- a turn that is skipped, and one that is not
-pub skipped : (b : Bool) (t : Turn) {u : Turn} {l l' : Log} {r : Turned} → not b ≡ true → Turns u l l' r → Turns (cond b t u) l l' r
-skipped true t e h = absurd (true≢false (sym e))
-skipped false t e h = h
+out : (b : Bool) (t u : Turn) {l l' : Log} {d : Car} {o : Option JustOpened} → b ≡ false → Turns u l l' d o → Turns (cond b t u) l l' d o
+out b t u e h = rw e h
 
-pub unskipped : (b : Bool) {t : Turn} (u : Turn) {l l' : Log} {r : Turned} → not b ≡ false → Turns t l l' r → Turns (cond b t u) l l' r
-unskipped true u e h = h
-unskipped false u e h = absurd (true≢false e)
+on : (b : Bool) (t u : Turn) {l l' : Log} {d : Car} {o : Option JustOpened} → b ≡ true → Turns t l l' d o → Turns (cond b t u) l l' d o
+on b t u e h = rw e h
 
-module _ {l l' : Log} {r : Turned} where
+module _ (c : Car) (i : ℕ) (a traversing : Bool) where
+  pub skipped : (next : Option ℕ) {l : Log} → c.enabled ≡ false → Turns (door_turn i c a traversing next) l l c not_opened
+  skipped next e = out c.enabled _ _ e (record { car = refl; told = told_none; opens = refl })
+
+  -- it is that of the car as its commands left it, where it stood
+  pub worked_off : (line : Line) (stops : List Float) {k d : Car} {l l' l'' : Log} {o : Option JustOpened} → c.enabled ≡ true → Works c a traversing i l l' k
+      → Turns (door_by i k (loop_next_stop_for_car line stops k.motion.position)) l' l'' d o
+      → Turns (door_turn i c a traversing (loop_next_stop_for_car line stops c.motion.position)) l l'' d o
+  worked_off line stops {k} e w h =
+      let m : k.motion ≡ c.motion = ap (λ (x : Car). x.motion) (w.car ∙ only c a traversing) in
+      let n : loop_next_stop_for_car line stops k.motion.position ≡ loop_next_stop_for_car line stops c.motion.position =
+      ap (λ (x : Motion). loop_next_stop_for_car line stops x.position) m in
+      on c.enabled _ _ e (rw (← w.car) (then w.told (rw n at h)))
+
+module _ {l l' : Log} {d : Car} {o : Option JustOpened} where
   -- who stands on the threshold matters only to a command
-  asked : (i : ℕ) (c : Car) (a traversing u : Bool) (next : Option ℕ) → (c.door_command_queue.count ≡ 0) ⊎ (traversing ≡ u) → Turns (door_turn i c a traversing next) l l' r
-      → Turns (door_turn i c a u next) l l' r
+  asked : (i : ℕ) (c : Car) (a traversing u : Bool) (next : Option ℕ) → (c.door_command_queue.count ≡ 0) ⊎ (traversing ≡ u) → Turns (door_turn i c a traversing next) l l' d o
+      → Turns (door_turn i c a u next) l l' d o
   asked i c a traversing u next k h =
       ⊎_elim (λ e. rw (no_work c a u e, no_words c a u i e) (rw (no_work c a traversing e, no_words c a traversing i e) at h)) (λ e. rw (← e) h) k
 
   -- by the line that was read, and by who was found on the threshold, if anybody was looked for
   pub turn_on_lem : (w : World) (i : ℕ) (c : Car) (line : Line) (traversing : Bool) → line ≡ line_of w.lines.items c.line
       → (c.door_command_queue.count ≡ 0) ⊎ (traversing ≡ has_rider_traversing w.riders i)
-      → Turns (door_turn i c (at_stop line w.stops c.motion.position) traversing (loop_next_stop_for_car line w.stops.items c.motion.position)) l l' r
-      → Turns (turn_on w i c (line_of w.lines.items c.line)) l l' r
+      → Turns (door_turn i c (at_stop line w.stops c.motion.position) traversing (loop_next_stop_for_car line w.stops.items c.motion.position)) l l' d o
+      → Turns (turn_on w i c (line_of w.lines.items c.line)) l l' d o
   turn_on_lem w i c line traversing f k h = asked i c _ traversing _ _ k (rw f at h)
 
   -- it is the car's turn
-  by : (w : World) (t : Turn) → Turns t l l' r → step_by w t ≡ step_of w r.car t.words r.opened
-  by w t h = rw (h.car, h.opened)
+  by : (w : World) (t : Turn) → Turns t l l' d o → step_by w t ≡ step_of w d t.words o
+  by w t h = rw (h.car, h.opens)
 
-  pub door_of_lem : (w : World) (i : ℕ) → Turns (turn_on w i (car_at w.cars.items i) (line_of w.lines.items (car_at w.cars.items i).line)) l l' r
-      → door_of w i ≡ step_of w r.car (turn_on w i (car_at w.cars.items i) (line_of w.lines.items (car_at w.cars.items i).line)).words r.opened
+  pub door_of_lem : (w : World) (i : ℕ) → Turns (turn_on w i (car_at w.cars.items i) (line_of w.lines.items (car_at w.cars.items i).line)) l l' d o
+      → door_of w i ≡ step_of w d (turn_on w i (car_at w.cars.items i) (line_of w.lines.items (car_at w.cars.items i).line)).words o
   unfolding door_of
   door_of_lem w i h = by w _ h
 
@@ -98,23 +112,20 @@ quiet true true true h f = f refl refl
 quiet true true false h f = absurd (true≢false h)
 quiet true false stays h f = absurd (true≢false h)
 
-abbrev with_count : Car → ℕ → Queue DoorCommand
-with_count c n = record { items = c.door_command_queue.items; count = n }
+-- a car without a command, before its commands
+as_it_is : (c : Car) → c.door_command_queue.count ≡ 0 → unworked c ≡ c
+as_it_is c e = ap (λ (n : ℕ). commanded c c.phase c.door (record { items = c.door_command_queue.items; count = n })) (sym e)
 
--- a car with its own number of commands
-as_it_is : (c : Car) (n : ℕ) → n ≡ c.door_command_queue.count → with_door c c.phase c.door c.target_stop c.lamps c.going_forward (with_count c n) ≡ c
-as_it_is c n e = ap (λ (m : ℕ). with_door c c.phase c.door c.target_stop c.lamps c.going_forward (with_count c m)) e
-
-resting : (i : ℕ) (c : Car) (k : Work) (words : List ℕ) (next : Option ℕ) → k ≡ unworked c → words ≡ [] → stays c.phase c.door c ≡ true
-    → turn_by i c k words next ≡ turned (rested c (unworked c) c.phase c.door) [] not_opened
+resting : (i : ℕ) (c k : Car) (words : List ℕ) (next : Option ℕ) → k ≡ unworked c → words ≡ [] → stays c ≡ true
+    → turn_by i k words next ≡ rests (unworked c)
 resting i c k words next e f s = rw (e, f, s)
 
-still : (i : ℕ) (c : Car) (a traversing : Bool) (next : Option ℕ) → has_turn c ≡ false → door_turn i c a traversing next ≡ turned c [] not_opened
+still : (i : ℕ) (c : Car) (a traversing : Bool) (next : Option ℕ) → has_turn c ≡ false → door_turn i c a traversing next ≡ rests c
 still i c a traversing next h =
-    quiet c.enabled (eqb c.door_command_queue.count 0) (stays c.phase c.door c) h
+    quiet c.enabled (eqb c.door_command_queue.count 0) (stays c) h
     (λ n s. let e = eqb-true c.door_command_queue.count 0 n in
     resting i c (process_door_commands c a traversing) (command_words c a traversing i) next (no_work c a traversing e) (no_words c a traversing i e) s
-    ∙ ap (λ (d : Car). turned d [] not_opened) (as_it_is c 0 (sym e)))
+    ∙ ap rests (as_it_is c e))
 
 still_of : (w : World) (i : ℕ) → has_turn (car_at w.cars.items i) ≡ false → door_of w i ≡ step_of w (car_at w.cars.items i) [] not_opened
 unfolding door_of
@@ -137,9 +148,22 @@ passed {world = world} {w = w} {i = i} {opened = opened} k b h =
     same (more (step_of w (car_at w.cars.items i) [] not_opened) k (still_of w i h) told_none) refl (stepped_same w i)
     (opened_same opened i (ap (λ (os : List (Option JustOpened)). get_or os i not_opened) k.opens ∙ unopened door_of world i b i (omega arith)))
 
--- all cars' turns, then the hall calls
-pub ended : {world w : World} {l l' l'' : Log} {opened : List (Option JustOpened)} {r : Calls} → Runs door_of world l (cars_of world) w opened l'
-    → Clears (clear_to opened (standing world) (cars_of world)) (clear_words_to opened (standing world) (cars_of world)) l' l'' r
+-- a place for each car
+places : (turn : World → ℕ → Step) (w : World) (n : ℕ) → length (run_to turn w n).opened ≡ 16
+unfolding run_to
+places turn w n =
+    by_turns turn w (λ i r. length r.opened ≡ 16) n (length-replicate 16 not_opened)
+    (λ i l p. length-set (run_to turn w i).opened i (turn (run_to turn w i).world i).opened ∙ p) n (omega arith)
+
+-- all cars' turns, then the hall calls, by what the cars have opened
+pub ended : {world w : World} {l l' l'' : Log} {n : ℕ} {opened : List (Option JustOpened)} {calls r : Calls} → Runs door_of world l (cars_of world) w opened l'
+    → n ≡ cars_of world
+    → calls ≡ standing world
+    → Clears (clear_to (take n opened) calls (min (length (take n opened)) 16)) (clear_words_to (take n opened) calls (min (length (take n opened)) 16)) l' l'' r
     → (with_people w w.riders r.up r.down ≡ doors_world world) × Told l (doors_words world) l''
 unfolding doors_world doors_words doored run_cars
-ended k h = (rw (← k.left, ← k.opens, ← h.calls), rw (← k.opens) (told_also k.told h.told))
+ended {world = world} {l' = l'} {l'' = l''} {n = n} {opened = opened} {calls = calls} {r = r} k e f h =
+    let s : length opened ≡ 16 = ap length k.opens ∙ places door_of world (cars_of world) in
+    let g : Clears (clear_to opened calls n) (clear_words_to opened calls n) l' l'' r = first opened calls n (omega (arith, e)) (omega (arith, s, e)) h in
+    let c : Clears (clear_to opened (standing world) (cars_of world)) (clear_words_to opened (standing world) (cars_of world)) l' l'' r = rw (← e, ← f) g in
+    (rw (← k.left, ← k.opens, ← c.calls), rw (← k.opens) (told_also k.told c.told))

@@ -1,5 +1,5 @@
 -- The doors: systems/doors.rs, run.
-use Rattle.std.specs.Prelude.{Bool, not, ◌&&◌, ◌||◌, cond, List, [], ◌++◌, ℕ, min, eqb}
+use Rattle.std.specs.Prelude.{Bool, not, ◌&&◌, ◌||◌, cond, List, ◌++◌, ℕ, min, eqb}
 use Rattle.world.specs.World.{car_at}
 use Rattle.world.specs.With.{with_people}
 use Rattle.world.specs.declared.World.{World}
@@ -7,24 +7,24 @@ use Rattle.world.specs.declared.Car.{Car}
 use Rattle.world.specs.declared.Line.{Line}
 use Rattle.std.specs.declared.option.Option.{Option}
 use Rattle.next_stop.specs.NextStop.{loop_next_stop_for_car}
-use Rattle.steps.specs.Steps.{line_of, Step, Run, step_of, not_opened, run_cars}
+use Rattle.steps.specs.Steps.{line_of, Step, Run, step_of, run_cars}
 use Rattle.door_commands.specs.Commands.{at_stop, has_rider_traversing, process_door_commands, command_words}
-use Rattle.door_commands.specs.declared.Work.{Work}
-use Rattle.door_ticks.specs.Ticks.{Turn, turned, stays, door_by, after}
-use Rattle.hall_calls.specs.Clearing.{Standing, standing_in, clear_to, clear_words_to}
+use Rattle.door_ticks.specs.Ticks.{Turn, rests, stays, door_by, after}
+use Rattle.hall_calls.specs.declared.Calls.{Calls}
+use Rattle.hall_calls.specs.Clearing.{clear_to, clear_words_to}
 
 -- run, for one car: "queued commands, loop's next stop, then the door's tick"
-abbrev pub turn_by : ℕ → Car → Work → List ℕ → Option ℕ → Turn
-turn_by i c k words next = after words (door_by k.doorway.phase k.doorway.door i c k next)
+abbrev pub turn_by : ℕ → Car → List ℕ → Option ℕ → Turn
+turn_by i c words next = after words (door_by i c next)
 
 -- "disabled skipped"
 abbrev pub door_turn : ℕ → Car → Bool → Bool → Option ℕ → Turn
 door_turn i c at_stop traversing next =
-    cond c.enabled (turn_by i c (process_door_commands c at_stop traversing) (command_words c at_stop traversing i) next) (turned c [] not_opened)
+    cond c.enabled (turn_by i (process_door_commands c at_stop traversing) (command_words c at_stop traversing i) next) (rests c)
 
 -- whether the turn may change anything: not of a disabled car, nor without a command where the door's tick is left out
 abbrev pub has_turn : Car → Bool
-has_turn c = c.enabled && (not (eqb c.door_command_queue.count 0) || not (stays c.phase c.door c))
+has_turn c = c.enabled && (not (eqb c.door_command_queue.count 0) || not (stays c))
 
 -- the turn of a car on its line
 abbrev pub turn_on : World → ℕ → Car → Line → Turn
@@ -43,8 +43,9 @@ door_of w i = step_by w (turn_on w i (car_at w.cars.items i) (line_of w.lines.it
 unfoldable pub doored : World → Run
 doored w = run_cars door_of w
 
-abbrev pub standing : World → Standing
-standing w = standing_in w.up_calls w.down_calls
+-- the calls standing in both directions
+abbrev pub standing : World → Calls
+standing w = record { up = w.up_calls; down = w.down_calls }
 
 abbrev pub cars_of : World → ℕ
 cars_of w = min w.cars.count 16

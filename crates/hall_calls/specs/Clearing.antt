@@ -20,32 +20,21 @@ clear_one calls s lit = cond (clears calls s lit) (cleared calls s) calls
 unfoldable pub clear_word : ℕ → ℕ → ℕ → Bool → Bool → List ℕ
 clear_word calls i s lit down = cond (clears calls s lit) (word_of (HallCallCleared i s down) ∷ []) []
 
--- the calls standing in both directions
-pub record Standing : Type 0 where
-  pub up : ℕ
-  pub down : ℕ
-
-abbrev pub standing_in : ℕ → ℕ → Standing
-standing_in up down = record { up = up; down = down }
-
-abbrev pub both_ways : Calls → Standing
-both_ways calls = standing_in calls.up calls.down
-
 -- clear_matching_hall_calls, for what car i opened: up before down
-abbrev pub clear_matching : Option JustOpened → Standing → Standing
+abbrev pub clear_matching : Option JustOpened → Calls → Calls
 clear_matching None h = h
 clear_matching (Some o) h = record { up = clear_one h.up o.stop o.lamps.going_up; down = clear_one h.down o.stop o.lamps.going_down }
 
-abbrev pub clear_matching_words : Option JustOpened → ℕ → Standing → List ℕ
+abbrev pub clear_matching_words : Option JustOpened → ℕ → Calls → List ℕ
 clear_matching_words None i h = []
 clear_matching_words (Some o) i h = clear_word h.up i o.stop o.lamps.going_up false ++ clear_word h.down i o.stop o.lamps.going_down true
 
-module _ (opened : List (Option JustOpened)) (h : Standing) where
+module _ (opened : List (Option JustOpened)) (h : Calls) where
   abbrev pub opened_of : ℕ → Option JustOpened
   opened_of n = get_or opened n not_opened
 
   -- after the first n cars of just_opened
-  unfoldable pub clear_to : ℕ → Standing
+  unfoldable pub clear_to : ℕ → Calls
   clear_to zero = h
   clear_to (suc n) = clear_matching (opened_of n) (clear_to n)
 
@@ -54,6 +43,6 @@ module _ (opened : List (Option JustOpened)) (h : Standing) where
   clear_words_to (suc n) = clear_words_to n ++ clear_matching_words (opened_of n) n (clear_to n)
 
 -- calls cleared by code: those that stand, and what it told the log
-pub record Clears (h : Standing) (words : List ℕ) (l : Log) (l' : Log) (r : Calls) : Type 0 where
-  pub calls : both_ways r ≡ h
+pub record Clears (h : Calls) (words : List ℕ) (l : Log) (l' : Log) (r : Calls) : Type 0 where
+  pub calls : r ≡ h
   pub told : Told l words l'

@@ -27,7 +27,7 @@ use Rattle.steps.specs.declared.JustOpened.{JustOpened}
 use Rattle.steps.proofs.Cars.{kept, stepped_same}
 use Rattle.doors_system.specs.Doors.{standing, doors_world, doors_words}
 use Rattle.doors_system.proofs.Running.{Runs}
-use Rattle.hall_calls.specs.Clearing.{Standing, Clears, clear_to, clear_words_to}
+use Rattle.hall_calls.specs.Clearing.{Clears, clear_to, clear_words_to}
 use Rattle.hall_calls.specs.declared.Calls.{Calls}
 use Rattle.world.specs.declared.Lamps.{Lamps}
 use Rattle.world.specs.Tables.{Stops}
@@ -143,7 +143,7 @@ pub calls_kept : {turn : World → ℕ → Step} {world w : World} {l l' : Log} 
 calls_kept {turn} {world} {w} {l} {l'} {i} k = ap standing k.left ∙ kept turn world standing (λ v j s. refl) i
 
 -- the same calls cleared by the same cars
-pub cleared : (opened : List (Option JustOpened)) {a b : Standing} {n m : ℕ} {l l' : Log} {r : Calls} → a ≡ b → n ≡ m
+pub cleared : (opened : List (Option JustOpened)) {a b : Calls} {n m : ℕ} {l l' : Log} {r : Calls} → a ≡ b → n ≡ m
     → Clears (clear_to opened a n) (clear_words_to opened a n) l l' r → Clears (clear_to opened b m) (clear_words_to opened b m) l l' r
 cleared opened e f h = rw (← e, ← f) h
 

@@ -27,12 +27,11 @@ use Rattle.arrival.specs.Arrival.{shifted, popped}
 use Rattle.movement_system.specs.Movement.{move_of}
 use Rattle.movement_system.proofs.Cases.{move_cases}
 use Rattle.door_commands.specs.Commands.{process_door_commands}
-use Rattle.door_commands.proofs.Working.{few_stay}
+use Rattle.door_commands.proofs.Working.{few_stay, only}
 use Rattle.door_commands.proofs.Keeping.{commands_keep}
 use Rattle.doors_system.specs.Doors.{door_turn}
 use Rattle.door_ticks.specs.Ticks.{Turn, rested}
 use Rattle.door_ticks.proofs.Cases.{door_cases}
-use Rattle.door_commands.specs.declared.Work.{Work}
 use Rattle.laws.proofs.Choices.{both}
 use Rattle.never_broken.proofs.Numbers.{still_loaded, stop_stays, phase_stays, listed}
 
@@ -123,17 +122,21 @@ module _ (lines stops i : ℕ) (c : Car) (h : CarIn lines stops c) where
   pub door_in : (here traversing : Bool) (next : Option ℕ) → stop_unloaded stops next ≡ false → Leaves (door_turn i c here traversing next)
   door_in here traversing next m =
       both Leaves c.enabled
-      (door_cases Leaves i c k next (λ d. rests_in k.doorway.phase d (commands_keep (λ p d. phase_unloaded stops p ≡ false) (λ a b. refl) (λ a. refl) (λ a b cd l. l) c here traversing h.phase))
+      (door_cases Leaves i k next (λ d. rests_in k.phase d (commands_keep (λ p d. phase_unloaded stops p ≡ false) (λ a b. refl) (λ a. refl) (λ a b cd l. l) c here traversing h.phase))
       (λ d. rests_in Loading d refl) (λ d. rests_in DoorClosing d refl)
-      (λ d. record { commands = few; line = h.line; phase = refl; target = refl; queue = h.queue })
-      (λ s d e. let l : unloaded stops s ≡ false = rw e at m in record { commands = few; line = h.line; phase = l; target = l; queue = h.queue }))
+      (λ d. record { commands = few; line = rest.0; phase = refl; target = refl; queue = rest.2 })
+      (λ s d e. let l : unloaded stops s ≡ false = rw e at m in record { commands = few; line = rest.0; phase = l; target = l; queue = rest.2 }))
       h
     where
-      k : Work
+      k : Car
       k = process_door_commands c here traversing
 
-      few : k.queue.count ≤ 8
+      few : k.door_command_queue.count ≤ 8
       few = few_stay c here traversing
 
-      rests_in : (p : ElevatorPhase) (d : DoorState) → phase_unloaded stops p ≡ false → CarIn lines stops (rested c k p d)
-      rests_in p d l = record { commands = few; line = h.line; phase = l; target = h.target; queue = h.queue }
+      -- what the commands leave alone
+      rest : (k.line < lines) × (stop_unloaded stops k.target_stop ≡ false) × QueueIn stops k.destination_queue.items k.destination_queue.count
+      rest = rw (only c here traversing) (h.line, h.target, h.queue)
+
+      rests_in : (p : ElevatorPhase) (d : DoorState) → phase_unloaded stops p ≡ false → CarIn lines stops (rested k p d)
+      rests_in p d l = record { commands = few; line = rest.0; phase = l; target = rest.1; queue = rest.2 }

@@ -21,7 +21,8 @@ use Rattle.steps.specs.declared.JustOpened.{JustOpened}
 use Rattle.movement_system.specs.Movement.{move_of, moved}
 use Rattle.door_commands.specs.Commands.{at_stop, has_rider_traversing}
 use Rattle.doors_system.specs.Doors.{door_of, doored, standing, cars_of, doors_world}
-use Rattle.hall_calls.specs.Clearing.{Standing, clears, clear_one, clear_matching, clear_to, opened_of}
+use Rattle.hall_calls.specs.declared.Calls.{Calls}
+use Rattle.hall_calls.specs.Clearing.{clears, clear_one, clear_matching, clear_to, opened_of}
 use Rattle.tick.specs.Tick.{tick_world}
 use Rattle.tick.specs.Counters.{Counts, NothingWraps}
 use Rattle.laws.proofs.Choices.{both}
@@ -149,18 +150,18 @@ unfolding clear_one
 clear_one_lem calls s lit = both (λ (x : ℕ). x ≤ calls) (clears calls s lit) (clear_most calls s) (omega arith)
 
 -- no more calls than in h
-record Fewer (h k : Standing) : Type 0 where
+record Fewer (h k : Calls) : Type 0 where
   up : k.up ≤ h.up
   down : k.down ≤ h.down
 
-clear_matching_lem : (o : Option JustOpened) (h k : Standing) → Fewer h k → Fewer h (clear_matching o k)
+clear_matching_lem : (o : Option JustOpened) (h k : Calls) → Fewer h k → Fewer h (clear_matching o k)
 clear_matching_lem None h k p = p
 clear_matching_lem (Some o) h k p = record {
   up = omega (arith, clear_one_lem k.up o.stop o.lamps.going_up, p.up);
   down = omega (arith, clear_one_lem k.down o.stop o.lamps.going_down, p.down);
 }
 
-clear_to_lem : (opened : List (Option JustOpened)) (h : Standing) (n : ℕ) → Fewer h (clear_to opened h n)
+clear_to_lem : (opened : List (Option JustOpened)) (h : Calls) (n : ℕ) → Fewer h (clear_to opened h n)
 unfolding clear_to
 clear_to_lem opened h zero = record { up = omega arith; down = omega arith }
 clear_to_lem opened h (suc n) = clear_matching_lem (opened_of opened h n) h (clear_to opened h n) (clear_to_lem opened h n)

@@ -17,7 +17,8 @@ use Rattle.steps.proofs.Cars.{kept}
 use Rattle.steps.specs.declared.JustOpened.{JustOpened}
 use Rattle.movement_system.specs.Movement.{move_of, moved}
 use Rattle.doors_system.specs.Doors.{standing, cars_of, door_of, doored, doors_world, doors_words}
-use Rattle.hall_calls.specs.Clearing.{Standing, clears, clear_word, clear_matching_words, opened_of, clear_to, clear_words_to}
+use Rattle.hall_calls.specs.declared.Calls.{Calls}
+use Rattle.hall_calls.specs.Clearing.{clears, clear_word, clear_matching_words, opened_of, clear_to, clear_words_to}
 use Rattle.tick.specs.Tick.{tick_world, tick_words}
 use Rattle.tick.specs.Room.{room_of, WordsFit}
 use Rattle.laws.specs.Counting.{how_many}
@@ -27,13 +28,13 @@ use Rattle.tick.proofs.Runs.{stops_in, Told, run_told, Grown, run_grown}
 
 -- ---- the hall calls
 
-match_quiet : (o : Option JustOpened) (i : ℕ) (h : Standing) → Quiet (2 * ones o) (clear_matching_words o i h)
+match_quiet : (o : Option JustOpened) (i : ℕ) (h : Calls) → Quiet (2 * ones o) (clear_matching_words o i h)
 unfolding clear_word
 match_quiet None i h = quiet_none
 match_quiet (Some o) i h =
     quiet_join (quiet_if (clears h.up o.stop o.lamps.going_up) 9 i o.stop (bit false) refl) (quiet_if (clears h.down o.stop o.lamps.going_down) 9 i o.stop (bit true) refl)
 
-calls_quiet : (os : List (Option JustOpened)) (h : Standing) (n : ℕ) → Quiet (2 * stops_in os n) (clear_words_to os h n)
+calls_quiet : (os : List (Option JustOpened)) (h : Calls) (n : ℕ) → Quiet (2 * stops_in os n) (clear_words_to os h n)
 unfolding clear_words_to stops_in sum_to
 calls_quiet os h zero = quiet_none
 calls_quiet os h (suc n) =

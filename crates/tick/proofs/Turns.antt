@@ -28,11 +28,11 @@ use Rattle.trips.specs.declared.Trip.TheVariants.{GoesTo, Repositions}
 use Rattle.movement_system.specs.Passing.{passing_words}
 use Rattle.movement_system.specs.Movement.{passed_by, passes, arrives, move_of}
 use Rattle.movement_system.proofs.Cases.{move_cases}
-use Rattle.door_commands.specs.Commands.{queued, tried_on, applied_words, work_to, work_words_to, process_door_commands, command_words}
+use Rattle.door_commands.specs.Commands.{queued, try_apply_command, applied_words, work_to, work_words_to, process_door_commands, command_words}
 use Rattle.doors_system.specs.Doors.{door_turn, step_by, turn_on, door_of}
-use Rattle.door_ticks.specs.Ticks.{Turn, opened_at, departed_from, door_by, after}
+use Rattle.door_ticks.specs.Ticks.{Turn, rested, opened_at, departed_from, door_by, after}
 use Rattle.door_ticks.proofs.Cases.{door_cases}
-use Rattle.door_commands.specs.declared.Work.{Work}
+use Rattle.door_commands.proofs.Working.{only}
 use Rattle.door_commands.specs.declared.Doorway.{Doorway}
 use Rattle.laws.specs.Counting.{how_many}
 use Rattle.laws.proofs.Counting.{how_many_append}
@@ -175,7 +175,7 @@ module _ (c : Car) (at_stop traversing : Bool) (i : ℕ) where
   works_quiet (suc n) =
       let q : DoorCommand = queued c at_stop traversing n in
       quiet_more (omega arith)
-      (quiet_join (works_quiet n) (applied_quiet i q (tried_on c at_stop traversing (work_to c at_stop traversing n) q)))
+      (quiet_join (works_quiet n) (applied_quiet i q (try_apply_command q (work_to c at_stop traversing n) at_stop traversing)))
 
   commands_quiet : Quiet 8 (command_words c at_stop traversing i)
   unfolding command_words
@@ -198,27 +198,27 @@ departed_quiet : (s : Option ℕ) (i : ℕ) → Quiet 1 (departed_from s i)
 departed_quiet None i = quiet_more (omega arith) quiet_none
 departed_quiet (Some s) i = quiet_one 8 i s 0 refl
 
-door_shuts : (i : ℕ) (c : Car) (k : Work) (next : Option ℕ) → Shuts c 3 (door_by k.doorway.phase k.doorway.door i c k next)
-door_shuts i c k next =
-    door_cases (Shuts c 3) i c k next (λ d. shuts c 3 quiet_none (omega arith) refl)
-    (λ d. shuts c 3 (quiet_one 6 i 0 0 refl) (omega (arith, opened_most c.target_stop c)) refl)
+door_shuts : (i : ℕ) (c : Car) (next : Option ℕ) → Shuts c 3 (door_by i c next)
+door_shuts i c next =
+    door_cases (Shuts c 3) i c next (λ d. shuts c 3 quiet_none (omega arith) refl)
+    (λ d. shuts c 3 (quiet_one 6 i 0 0 refl) (omega (arith, opened_most c.target_stop (rested c c.phase d))) refl)
     (λ d. shuts c 3 quiet_none (omega arith) refl)
     (λ d. shuts c 3 (quiet_join (quiet_one 7 i 0 0 refl) (lamps_quiet i c.lamps both_lit)) (omega arith) refl)
     (λ s d e. shuts c 3 (quiet_join (quiet_one 7 i 0 0 refl) (quiet_join (lamps_quiet i c.lamps unlit) (departed_quiet c.target_stop i))) (omega arith) refl)
 
-after_shuts : {c : Car} {ws : List ℕ} (t : Turn) → Quiet 8 ws → Shuts c 3 t → Shuts c 11 (after ws t)
-after_shuts {c} {ws} t q h = record {
+after_shuts : {c k : Car} {ws : List ℕ} (t : Turn) → k.move_count ≡ c.move_count → Quiet 8 ws → Shuts k 3 t → Shuts c 11 (after ws t)
+after_shuts {c} {k} {ws} t e q h = record {
   size = omega (arith, length-append ws t.words, q.size, h.size);
   none = omega (arith, moves_append ws t.words, q.none, h.none);
-  count = h.count;
+  count = h.count ∙ e;
 }
 
 turn_shuts : (i : ℕ) (c : Car) (at_stop traversing : Bool) (next : Option ℕ) → Shuts c 11 (door_turn i c at_stop traversing next)
 unfolding how_many
 turn_shuts i c at_stop traversing next =
-    let k : Work = process_door_commands c at_stop traversing in
+    let k : Car = process_door_commands c at_stop traversing in
     both (Shuts c 11) c.enabled
-    (after_shuts (door_by k.doorway.phase k.doorway.door i c k next) (commands_quiet c at_stop traversing i) (door_shuts i c k next))
+    (after_shuts (door_by i k next) (ap (λ (x : Car). x.move_count) (only c at_stop traversing)) (commands_quiet c at_stop traversing i) (door_shuts i k next))
     (record { size = omega arith; none = refl; count = refl })
 
 step_fair : (w : World) (c : Car) (t : Turn) → Shuts c 11 t → Fair 11 0 w.total_moves c (step_by w t)
