@@ -9,7 +9,7 @@ use arrival::{asks_work, work_of};
 use changes::{Answered, refused};
 use door_commands::has_rider_traversing;
 use doors_system::{door_turn, has_turn};
-use hall_calls::clear_hall_calls;
+use hall_calls::{Calls, clear_hall_calls};
 use landing::{landing, leader_of};
 use log_words::Event;
 use log_writes::Log;
@@ -102,8 +102,8 @@ pub fn record(world: World, words: &[u32], log: &mut [u32]) -> Recorded
     // 4. doors.rs, run: commands, then the door's tick, car by car; then the hall calls clear
     let mut just_opened = [None; 16];
     for i in 0..cars {
-        let car = w.cars.items[i];
-        if has_turn(car) {
+        let mut car = w.cars.items[i];
+        if has_turn(&car) {
             let number = i as u8;
             let line = line_at(&w.lines.items, car.line);
             let traversing = if car.door_command_queue.count == 0 {
@@ -111,12 +111,15 @@ pub fn record(world: World, words: &[u32], log: &mut [u32]) -> Recorded
             } else {
                 has_rider_traversing(&w.riders, number)
             };
-            let turned = door_turn(&mut log, number, car, line, traversing, &w.stops);
-            w.cars.items[i] = turned.car;
-            just_opened[i] = turned.opened;
+            just_opened[i] = door_turn(&mut log, number, &mut car, line, traversing, &w.stops);
+            w.cars.items[i] = car;
         }
     }
-    let calls = clear_hall_calls(&mut log, just_opened, cars, w.up_calls, w.down_calls);
+    let standing = Calls {
+        up: w.up_calls,
+        down: w.down_calls,
+    };
+    let calls = clear_hall_calls(&mut log, &just_opened[..cars], standing);
     w.up_calls = calls.up;
     w.down_calls = calls.down;
     w.ticks = w.ticks.wrapping_add(1);

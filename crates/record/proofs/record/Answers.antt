@@ -12,7 +12,7 @@ use Rattle.std.specs.declared.option.Option.{Option}
 use Rattle.steps.specs.declared.JustOpened.{JustOpened}
 use Rattle.laws.specs.Numbers.{plus}
 use Rattle.doors_system.proofs.Running.{Runs, same, more, turn_on_lem, door_of_lem, passed, ended}
-use Rattle.movement_system.proofs.Moving.{Moves, cars_kept, calls_kept, cleared, doored_after, looked, comes_in, goes_on_lem, stays}
+use Rattle.movement_system.proofs.Moving.{Moves, cars_kept, calls_kept, doored_after, looked, comes_in, goes_on_lem, stays}
 use Rattle.tick.specs.Tick.{ticked, tick_world, tick_words}
 use Rattle.record.proofs.Giving.{is_broken, is_whole, is_refused, is_made, is_changed, tick_refused, tick_taken_lem}
 use Rattle.record.proofs.record.Goals as goal
@@ -111,9 +111,8 @@ loop-i-2-preserved c =
       omega (arith, test),
       elim c.if-has_turn.branch [
         | then-has_turn u ↦
-            let t = u.door_turn-turned in
-            let h = turn_on_lem w.w w.i (car_at w.w.cars.items w.i) _ _ u.line_at-line.ensures (elim u.if-car-eq0.branch [ then-car-eq0 v ↦ inl v.if-car-eq0.true | else-car-eq0 v ↦ inr (v.traversing-is ∙ v.has_rider_traversing-traversing.ensures) ]) t.ensures in
-            same (more (step_of w.w t.result.car _ t.result.opened) w.invariant.1 (door_of_lem w.w w.i h) h.told) u.log-is u.w-is u.just_opened-is
+            let h = turn_on_lem w.w w.i (car_at w.w.cars.items w.i) _ _ u.line_at-line.ensures (elim u.if-car-eq0.branch [ then-car-eq0 v ↦ inl v.if-car-eq0.true | else-car-eq0 v ↦ inr (v.traversing-is ∙ v.has_rider_traversing-traversing.ensures) ]) u.door_turn.ensures in
+            same (more (step_of w.w u.door_turn.new.car _ u.door_turn.result) w.invariant.1 (door_of_lem w.w w.i h) h.told) u.log-is u.w-is u.just_opened-is
         | else-has_turn u ↦ same (passed w.invariant.1 (omega (arith, test, w.invariant.2)) (sym c.has_turn.ensures ∙ u.if-has_turn.false)) u.log-is u.w-is u.just_opened-is
       ],
       w.invariant.2,
@@ -131,8 +130,8 @@ returns c =
     let e : min w.cars.count 16 ≡ s.i = omega (arith, n, c.loop-i-test.false, s.invariant.0) in
     let k = moves_at s.invariant.1 (sym e) in
     let f : t.i ≡ min s.w.cars.count 16 = omega (arith, n, c.loop-i-2-test.false, t.invariant.0, cars_kept k) in
-    let d : min c.min-cars.result 16 ≡ min s.w.cars.count 16 = omega (arith, n, cars_kept k) in
-    let r = ended (runs_at t.invariant.1 f) (cleared t.just_opened (calls_kept t.invariant.1) d c.clear_hall_calls-calls.ensures) in
+    let d : c.min-cars.result ≡ min s.w.cars.count 16 = omega (arith, n, cars_kept k) in
+    let r = ended (runs_at t.invariant.1 f) d (calls_kept t.invariant.1) c.clear_hall_calls-calls.ensures in
     let x = doored_after c.in-Ok-Tick.dt w k r.0 r.1 in
     let all = told_also c.emit.ensures x.1 in
     is_whole w _ _ (whole (goal.at.returns c).Else-broken) c.decode.ensures
