@@ -102,8 +102,8 @@ pub fn record(world: World, words: &[u32], log: &mut [u32]) -> Recorded
     // 4. doors.rs, run: commands, then the door's tick, car by car; then the hall calls clear
     let mut just_opened = [None; 16];
     for i in 0..cars {
-        let mut car = w.cars.items[i];
-        if has_turn(&car) {
+        if has_turn(&w.cars.items[i]) {
+            let mut car = w.cars.items[i];
             let number = i as u8;
             let line = line_at(&w.lines.items, car.line);
             let traversing = if car.door_command_queue.count == 0 {
