@@ -23,6 +23,7 @@ pub fn nothing_wraps() -> bool
 }
 
 // Carries document 01's traps and its tape, each by computing.
+#[tactic(auto, using(crate::proofs::Computed::traps))]
 pub fn traps() -> bool
     ensures { (result ≡ true) × Traps }
 {
