@@ -45,6 +45,7 @@ fn nothing() -> Recorded
 }
 
 // By the call that takes the world by value. What it made stays where it is, and its world is handed to the next call.
+#[tactic(auto, using(crate::proofs::Playing::begins))]
 fn by_value(words: &[u32], log: &mut [u32], records: u64) -> Played
     ensures { Bench.Reached (Bench.played_to words.now log.old records) result.world log.new result.used result.written }
 {
@@ -67,6 +68,7 @@ fn by_value(words: &[u32], log: &mut [u32], records: u64) -> Played
 
 // By the call that is lent the world, likewise.
 // Stays: two loops. One over a trait of record calls makes and clears a world more in each turn: 21,700 instructions a tick in place of 11,200.
+#[tactic(auto, using(crate::proofs::Playing::begins))]
 fn by_lending(words: &[u32], log: &mut [u32], records: u64) -> Played
     ensures { Bench.Reached (Bench.played_to words.now log.old records) result.world log.new result.used result.written }
 {
