@@ -1,12 +1,12 @@
 -- The records of a tape, one more. Assumes nothing.
-use Rattle.std.proofs.Common.{◌≡◌, ℕ, ◌+◌, ◌-◌, ◌≤◌, List, length, take, drop, refl, ap, ◌∙◌, add-one, arith, length-drop, take_all}
+use Rattle.std.proofs.Common.{◌≡◌, ℕ, ◌+◌, ◌-◌, ◌≤◌, List, length, take, drop, refl, add-one, arith, length-drop, take_all}
 use Rattle.world.specs.World.{empty_world}
 use Rattle.world.specs.declared.World.{World}
 use Rattle.record.specs.Record.{Answer, Outcome, record_of, used_of, written_of}
 use Rattle.conditions.specs.Conditions.{FirstCondition}
 use Rattle.conditions.proofs.Answering.{first_condition}
 use Rattle.laws.specs.Numbers.{plus}
-use Rattle.beside_ticks.specs.Bench.{Playing, played_to, Reached}
+use Rattle.beside_ticks.specs.Bench.{played_to, Reached}
 
 -- before the first
 pub begins : (words log : List ℕ) {w : World} → w ≡ empty_world → Reached (played_to words log 0) w log 0 0
