@@ -7,6 +7,7 @@ ghost use Rattle.whole_tape.specs.Certified.{Certified};
 ghost use Rattle.whole_tape.specs.Example.{PaperTape, PaperCalls};
 
 // Carries the claims.
+#[tactic(auto, using(crate::proofs::Ignoring::ignored, crate::proofs::Ignoring::longest, crate::proofs::Ending::in_pieces, crate::proofs::Certifying::certified, crate::proofs::Computed::paper_tape_lem, crate::proofs::Computed::paper_calls))]
 pub fn whole_tape() -> bool
     ensures { (result ≡ true) × Ignored × Longest × InPieces × Certified × PaperTape × PaperCalls }
 {
