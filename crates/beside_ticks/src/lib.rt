@@ -1,7 +1,7 @@
 // Record calls for the bench: the first records of a tape, from the empty world on, and a sum over what they leave.
 #![tactic(auto)]
 
-ghost use Rattle.std.specs.Prelude.{◌≡◌, Ok};
+ghost use Rattle.std.specs.Prelude.{◌≡◌, Ok, length};
 ghost use Rattle.float.specs.Float.{number_bits};
 ghost use Rattle.record.specs.Record.{used_of, written_of};
 ghost use Rattle.laws.specs.Numbers.{plus};
@@ -22,42 +22,41 @@ struct Played {
     written: u64,
 }
 
-fn used_of(answer: Answer) -> usize
-    ensures { result ≡ used_of answer }
-{
-    answer.map_or(0, |accepted| accepted.used)
-}
+const NOTHING: Accepted = Accepted {
+    used: 0,
+    written: 0,
+};
 
-fn written_of(answer: Answer) -> usize
-    ensures { result ≡ written_of answer }
+// What the record used and wrote, nothing where it was refused.
+fn told_by(answer: Answer) -> Accepted
+    ensures { (result.used ≡ used_of answer) × (result.written ≡ written_of answer) }
 {
-    answer.map_or(0, |accepted| accepted.written)
+    answer.unwrap_or(NOTHING)
 }
 
 // Before the first record: the empty world, as from a record that used no word and wrote none.
 fn nothing() -> Recorded
     ensures { (result.answer ≡ Ok (record { used = 0; written = 0 })) × (result.world ≡ empty_world) }
 {
-    let answer = Ok(Accepted {
-        used: 0,
-        written: 0,
-    });
-    let world = empty();
-    Recorded { answer, world }
+    Recorded {
+        answer: Ok(NOTHING),
+        world: empty(),
+    }
 }
 
 // By the call that takes the world by value. What it made stays where it is, and its world is handed to the next call.
+#[tactic(auto, using(crate::proofs::Playing::begins))]
 fn by_value(words: &[u32], log: &mut [u32], records: u64) -> Played
     ensures { Bench.Reached (Bench.played_to words.now log.old records) result.world log.new result.used result.written }
 {
     let mut made = nothing();
     let mut used: usize = 0;
     let mut written: u64 = 0;
-    for i in 0..records {
+    for _ in 0..records {
         made = record(made.world, &words[used..], log);
-        let answer = made.answer;
-        used += used_of(answer);
-        written = written.wrapping_add(written_of(answer) as u64);
+        let told = told_by(made.answer);
+        used += told.used;
+        written = written.wrapping_add(told.written as u64);
     }
     let world = made.world;
     Played {
@@ -69,17 +68,18 @@ fn by_value(words: &[u32], log: &mut [u32], records: u64) -> Played
 
 // By the call that is lent the world, likewise.
 // Stays: two loops. One over a trait of record calls makes and clears a world more in each turn: 21,700 instructions a tick in place of 11,200.
+#[tactic(auto, using(crate::proofs::Playing::begins))]
 fn by_lending(words: &[u32], log: &mut [u32], records: u64) -> Played
     ensures { Bench.Reached (Bench.played_to words.now log.old records) result.world log.new result.used result.written }
 {
     let mut made = nothing();
     let mut used: usize = 0;
     let mut written: u64 = 0;
-    for i in 0..records {
+    for _ in 0..records {
         made = turn(made.world, &words[used..], log);
-        let answer = made.answer;
-        used += used_of(answer);
-        written = written.wrapping_add(written_of(answer) as u64);
+        let told = told_by(made.answer);
+        used += told.used;
+        written = written.wrapping_add(told.written as u64);
     }
     let world = made.world;
     Played {
@@ -89,34 +89,36 @@ fn by_lending(words: &[u32], log: &mut [u32], records: u64) -> Played
     }
 }
 
-fn sum(car: Car) -> u64
-    ensures { result ≡ plus (number_bits car.motion.position) (number_bits car.motion.velocity) }
+#[tactic(auto, unfolding(laws::specs::Numbers::plus))]
+fn sum(car: &Car) -> u64
+    ensures { result ≡ plus (number_bits car.now.motion.position) (number_bits car.now.motion.velocity) }
 {
     number_bits(car.motion.position).wrapping_add(number_bits(car.motion.velocity))
 }
 
-fn sum_of_cars(cars: [Car; 16]) -> u64
-    ensures { result ≡ Bench.sum_to cars 16 }
+#[tactic(auto, unfolding(crate::specs::Bench::sum_to, laws::specs::Numbers::plus))]
+fn sum_of_cars(cars: &[Car]) -> u64
+    ensures { result ≡ Bench.sum_to cars.now (length cars.now) }
 {
     let mut total: u64 = 0;
-    for i in 0..16 {
-        total = total.wrapping_add(sum(cars[i]));
+    for car in cars {
+        total = total.wrapping_add(sum(car));
     }
     total
 }
 
 // The sum of the cars' bits, the moves and the log words.
+#[tactic(auto, unfolding(crate::specs::Bench::sum_of, laws::specs::Numbers::plus))]
 fn sum_of(played: Played) -> u64
     ensures { result ≡ Bench.sum_of played.world played.written }
 {
-    let world = played.world;
-    let cars = world.cars.items;
-    let moves = world.total_moves.wrapping_add(played.written);
-    sum_of_cars(cars).wrapping_add(moves)
+    let moves = played.world.total_moves.wrapping_add(played.written);
+    sum_of_cars(&played.world.cars.items).wrapping_add(moves)
 }
 
 // So many records of the tape by the by-value call.
 #[unsafe(no_mangle)]
+#[tactic(auto, unfolding(crate::specs::Bench::bench_records))]
 pub extern "C" fn bench_records(words: &[u32], records: u64) -> u64
     ensures { result ≡ Bench.bench_records words.now records }
 {
@@ -126,6 +128,7 @@ pub extern "C" fn bench_records(words: &[u32], records: u64) -> u64
 
 // The same by the lent call.
 #[unsafe(no_mangle)]
+#[tactic(auto, unfolding(crate::specs::Bench::bench_records))]
 pub extern "C" fn bench_lent_records(words: &[u32], records: u64) -> u64
     ensures { result ≡ Bench.bench_records words.now records }
 {

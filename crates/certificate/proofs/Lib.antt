@@ -5,3 +5,4 @@ pub mod Ticking
 pub mod Reading
 pub mod Records
 pub mod Proved
+pub mod Computed

@@ -1,7 +1,7 @@
 -- A record call keeps the totals, and what is held of each car that it does not put into Manual mode. Assumes nothing.
 use mathlib.Core.Path.{◌≡◌, refl, sym, ap, subst, ◌∙◌}
 use mathlib.Core.Bool.{Bool, true, false, not, ◌&&◌, cond}
-use mathlib.Core.List.{List, [], ◌∷◌, ◌++◌, append-nil}
+use mathlib.Core.List.{List, [], ◌++◌, append-nil}
 use Prim.Native.Nat.{ℕ, zero, suc, ◌+◌, ◌<◌, ◌≤◌}
 use native.Mathlib.Numerals.{add-one}
 use native.Mathlib.Omega.{arith}
@@ -31,9 +31,7 @@ use Rattle.tape.specs.Tape.{decoded}
 use Rattle.layout.specs.Layout.{kind_of}
 use Rattle.std.specs.Prelude.{Result, Ok, Err}
 use Rattle.tape_records.specs.declared.Read.{Read}
-use Rattle.tape_records.specs.declared.Read.TheVariants as Read
 use Rattle.tape_records.specs.declared.Record.{Record}
-use Rattle.tape_records.specs.declared.Record.TheVariants as Record
 use Rattle.loads.specs.Loads as Loads
 use Rattle.changes.specs.Changes as Changes
 use Rattle.loads.specs.Loads.{load_line, load_stop, load_car, load_rider}

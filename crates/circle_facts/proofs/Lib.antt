@@ -6,3 +6,4 @@ pub mod Shorter
 pub mod Tick
 pub mod Ways
 pub mod Wrapped
+pub mod Together

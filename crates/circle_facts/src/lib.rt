@@ -5,6 +5,7 @@ ghost use Rattle.std.specs.Prelude.{◌≡◌, true};
 ghost use Rattle.circle_facts.specs.Facts.{Facts};
 
 // Carries the claims of specs/Facts, which speak of the definitions alone.
+#[tactic(auto, using(crate::proofs::Together::facts))]
 pub fn facts() -> bool
     ensures { (result ≡ true) × Facts }
 {

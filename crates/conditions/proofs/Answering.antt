@@ -6,7 +6,7 @@ use mathlib.Core.List.{List, [], ◌∷◌, ◌++◌}
 use native.Mathlib.Omega.{arith}
 use Prim.Native.Nat.{ℕ, ◌+◌, ◌<◌, ◌≤◌}
 use lib.Dec.{eqb}
-use lib.ListN.{length, get_or, set}
+use lib.ListN.{length, get_or}
 use lib.Seq.{length-sets}
 use lib.Ieee.{Float}
 use borrow.Author.Tests.{ltb-false, eqb-false}
@@ -25,7 +25,6 @@ use Rattle.fields.specs.Fields.{head_of}
 use Rattle.layout.specs.Layout.{kind_of}
 use Rattle.tape.specs.Facts.{Facts, InBounds, ReadInBounds}
 use Rattle.tape_records.specs.declared.Read.{Read}
-use Rattle.tape_records.specs.declared.Read.TheVariants as Read
 use Rattle.tape_records.specs.declared.Record.{Record}
 use Rattle.tape_records.specs.declared.Record.TheVariants.{Line, Stop, Car, Rider, Send, Mode, ManualSpeed, DoorCommand, HallCall, Destination, Enable, Start}
 use Rattle.tape.proofs.Bounds.{in_bounds}

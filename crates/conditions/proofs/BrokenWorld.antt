@@ -1,7 +1,7 @@
 -- Refusal 0: the page's conditions and the definition's test say the same of every world. Assumes nothing.
 use mathlib.Core.Path.{◌≡◌, refl, ap, ◌∙◌}
 use mathlib.Core.Logic.{◌⊎◌, inl, inr}
-use mathlib.Core.Bool.{Bool, true, false}
+use mathlib.Core.Bool.{true, false}
 use Prim.Native.Nat.{ℕ, zero, suc, ◌*◌, ◌/◌, ◌%◌, ◌^◌, ◌<◌, ◌≤◌}
 use native.Mathlib.Nat.{div-add-mod', mod-lt, div-div-eq-div-mul, pow-succ'}
 use native.Mathlib.Omega.{arith}
@@ -12,7 +12,7 @@ use borrow.Author.Tests.{le-leb, leb-true}
 use Rattle.laws.proofs.Bools.{no}
 use Rattle.call_sets.specs.Calls.{called}
 use Rattle.call_sets.proofs.Bits.{bit_held}
-use Rattle.sound_rows.specs.Rows.{stop_unloaded, car_unloaded, phase_unloaded, rider_phase_unloaded, line_broken, car_broken, rider_broken}
+use Rattle.sound_rows.specs.Rows.{stop_unloaded, phase_unloaded, rider_phase_unloaded, line_broken, car_broken, rider_broken}
 use Rattle.sound.specs.Sound.{counts_broken, broken}
 use Rattle.world.specs.World.{line_at, car_at, rider_at}
 use Rattle.world.specs.declared.World.{World}
@@ -23,6 +23,7 @@ use Rattle.world.specs.declared.ElevatorPhase.{ElevatorPhase}
 use Rattle.world.specs.declared.ElevatorPhase.TheVariants.{Idle, MovingToStop, Repositioning, DoorOpening, Loading, DoorClosing, Stopped}
 use Rattle.world.specs.declared.RiderPhase.{RiderPhase}
 use Rattle.world.specs.declared.RiderPhase.TheVariants.{Waiting, Boarding, Riding, Exiting, Walking, Arrived, Abandoned, Resident}
+use Rattle.std.specs.Prelude.{is_some}
 use Rattle.std.specs.declared.option.Option.{Option}
 use Rattle.std.specs.declared.option.Option.TheVariants.{None, Some}
 use Rattle.conditions.specs.Refusals.{Broken, stops_above, lines_above, cars_above, riders_above, list_above, ticks_above, destinations_above, commands_above, total_high, moves_high, listed_unloaded, line_unloaded, moving_unloaded, repositioning_unloaded, target_unloaded, queued_unloaded, route_unloaded, boarding_unloaded, riding_unloaded, exiting_unloaded, aboard_unloaded, up_unloaded, down_unloaded}
@@ -30,122 +31,83 @@ use Rattle.conditions.proofs.Deciding.{Decides, less, most, through, never, ◌o
 
 -- ---- numbers that a phase or an option holds
 
+abbrev number_in : Option ℕ → ℕ
+number_in None = 0
+number_in (Some number) = number
+
 module _ (bound : ℕ) where
   -- a number that is held, and not below the bound
   abbrev Held : (ℕ → Type 0) → Type 0
   Held P = (number : ℕ) × P number × (bound ≤ number)
 
   -- what holds that number and no other
-  holding : {P : ℕ → Type 0} (number : ℕ) → P number → ((k : ℕ) → P k → number ≡ k) → Decides (Held P) (leb bound number)
+  holding : {P : ℕ → Type 0} (number : ℕ) → P number → ((k : ℕ) → P k → Some number ≡ Some k) → Decides (Held P) (leb bound number)
   holding {P} number p only = record {
     so = λ e. (number, p, leb-true bound number e);
-    back = λ x. le-leb bound number (omega (arith, only x.0 x.1, x.2));
+    back = λ x. le-leb bound number (omega (arith, ap number_in (only x.0 x.1), x.2));
   }
+
+  -- what holds none
+  empty : {P : ℕ → Type 0} → ((k : ℕ) → P k → ◌≡◌ {A = Option ℕ} None (Some k)) → Decides (Held P) false
+  empty only = never (λ x. no (ap is_some (only x.0 x.1)))
+
+  -- a stop or a car, where there is one
+  option_decided : (o : Option ℕ) → Decides (Held (λ number. o ≡ Some number)) (stop_unloaded bound o)
+  option_decided None = empty (λ k e. e)
+  option_decided (Some number) = holding number refl (λ k e. e)
 
 abbrev InPhase : ElevatorPhase → ℕ → Type 0
 InPhase p stop = (p ≡ MovingToStop stop) ⊎ (p ≡ Repositioning stop)
 
-abbrev going : ElevatorPhase → Bool
-going Idle = false
-going (MovingToStop stop) = true
-going (Repositioning stop) = true
-going DoorOpening = false
-going Loading = false
-going DoorClosing = false
-going Stopped = false
+abbrev stop_in : ElevatorPhase → Option ℕ
+stop_in Idle = None
+stop_in (MovingToStop stop) = Some stop
+stop_in (Repositioning stop) = Some stop
+stop_in DoorOpening = None
+stop_in Loading = None
+stop_in DoorClosing = None
+stop_in Stopped = None
 
-abbrev goal : ElevatorPhase → ℕ
-goal Idle = 0
-goal (MovingToStop stop) = stop
-goal (Repositioning stop) = stop
-goal DoorOpening = 0
-goal Loading = 0
-goal DoorClosing = 0
-goal Stopped = 0
-
-is_going : (p : ElevatorPhase) (stop : ℕ) → InPhase p stop → going p ≡ true
-is_going p stop (inl e) = ap going e
-is_going p stop (inr e) = ap going e
-
-goal_is : (p : ElevatorPhase) (stop : ℕ) → InPhase p stop → goal p ≡ stop
-goal_is p stop (inl e) = ap goal e
-goal_is p stop (inr e) = ap goal e
+stop_is : (p : ElevatorPhase) (stop : ℕ) → InPhase p stop → stop_in p ≡ Some stop
+stop_is p stop (inl e) = ap stop_in e
+stop_is p stop (inr e) = ap stop_in e
 
 phase_decided : (stops : ℕ) (p : ElevatorPhase) → Decides (Held stops (InPhase p)) (phase_unloaded stops p)
-phase_decided stops Idle = never (λ x. no (is_going Idle x.0 x.1))
-phase_decided stops (MovingToStop stop) = holding stops stop (inl refl) (goal_is (MovingToStop stop))
-phase_decided stops (Repositioning stop) = holding stops stop (inr refl) (goal_is (Repositioning stop))
-phase_decided stops DoorOpening = never (λ x. no (is_going DoorOpening x.0 x.1))
-phase_decided stops Loading = never (λ x. no (is_going Loading x.0 x.1))
-phase_decided stops DoorClosing = never (λ x. no (is_going DoorClosing x.0 x.1))
-phase_decided stops Stopped = never (λ x. no (is_going Stopped x.0 x.1))
+phase_decided stops Idle = empty stops (stop_is Idle)
+phase_decided stops (MovingToStop stop) = holding stops stop (inl refl) (stop_is (MovingToStop stop))
+phase_decided stops (Repositioning stop) = holding stops stop (inr refl) (stop_is (Repositioning stop))
+phase_decided stops DoorOpening = empty stops (stop_is DoorOpening)
+phase_decided stops Loading = empty stops (stop_is Loading)
+phase_decided stops DoorClosing = empty stops (stop_is DoorClosing)
+phase_decided stops Stopped = empty stops (stop_is Stopped)
 
 abbrev InRider : RiderPhase → ℕ → Type 0
 InRider p car = (p ≡ Boarding car) ⊎ (p ≡ Riding car) ⊎ (p ≡ Exiting car)
 
-abbrev with_car : RiderPhase → Bool
-with_car Waiting = false
-with_car (Boarding car) = true
-with_car (Riding car) = true
-with_car (Exiting car) = true
-with_car Walking = false
-with_car Arrived = false
-with_car Abandoned = false
-with_car Resident = false
+abbrev car_in : RiderPhase → Option ℕ
+car_in Waiting = None
+car_in (Boarding car) = Some car
+car_in (Riding car) = Some car
+car_in (Exiting car) = Some car
+car_in Walking = None
+car_in Arrived = None
+car_in Abandoned = None
+car_in Resident = None
 
-abbrev car_in : RiderPhase → ℕ
-car_in Waiting = 0
-car_in (Boarding car) = car
-car_in (Riding car) = car
-car_in (Exiting car) = car
-car_in Walking = 0
-car_in Arrived = 0
-car_in Abandoned = 0
-car_in Resident = 0
-
-has_car : (p : RiderPhase) (car : ℕ) → InRider p car → with_car p ≡ true
-has_car p car (inl e) = ap with_car e
-has_car p car (inr (inl e)) = ap with_car e
-has_car p car (inr (inr e)) = ap with_car e
-
-car_is : (p : RiderPhase) (car : ℕ) → InRider p car → car_in p ≡ car
+car_is : (p : RiderPhase) (car : ℕ) → InRider p car → car_in p ≡ Some car
 car_is p car (inl e) = ap car_in e
 car_is p car (inr (inl e)) = ap car_in e
 car_is p car (inr (inr e)) = ap car_in e
 
 rider_phase_decided : (cars : ℕ) (p : RiderPhase) → Decides (Held cars (InRider p)) (rider_phase_unloaded cars p)
-rider_phase_decided cars Waiting = never (λ x. no (has_car Waiting x.0 x.1))
+rider_phase_decided cars Waiting = empty cars (car_is Waiting)
 rider_phase_decided cars (Boarding car) = holding cars car (inl refl) (car_is (Boarding car))
 rider_phase_decided cars (Riding car) = holding cars car (inr (inl refl)) (car_is (Riding car))
 rider_phase_decided cars (Exiting car) = holding cars car (inr (inr refl)) (car_is (Exiting car))
-rider_phase_decided cars Walking = never (λ x. no (has_car Walking x.0 x.1))
-rider_phase_decided cars Arrived = never (λ x. no (has_car Arrived x.0 x.1))
-rider_phase_decided cars Abandoned = never (λ x. no (has_car Abandoned x.0 x.1))
-rider_phase_decided cars Resident = never (λ x. no (has_car Resident x.0 x.1))
-
-abbrev is_stop : Option ℕ → Bool
-is_stop None = false
-is_stop (Some stop) = true
-
-abbrev stop_in : Option ℕ → ℕ
-stop_in None = 0
-stop_in (Some stop) = stop
-
-stop_decided : (stops : ℕ) (o : Option ℕ) → Decides (Held stops (λ stop. o ≡ Some stop)) (stop_unloaded stops o)
-stop_decided stops None = never (λ x. no (ap is_stop x.1))
-stop_decided stops (Some stop) = holding stops {P = λ k. Some stop ≡ Some k} stop refl (λ k e. ap stop_in e)
-
-abbrev is_car : Option ℕ → Bool
-is_car None = false
-is_car (Some car) = true
-
-abbrev aboard_in : Option ℕ → ℕ
-aboard_in None = 0
-aboard_in (Some car) = car
-
-car_decided : (cars : ℕ) (o : Option ℕ) → Decides (Held cars (λ car. o ≡ Some car)) (car_unloaded cars o)
-car_decided cars None = never (λ x. no (ap is_car x.1))
-car_decided cars (Some car) = holding cars {P = λ k. Some car ≡ Some k} car refl (λ k e. ap aboard_in e)
+rider_phase_decided cars Walking = empty cars (car_is Walking)
+rider_phase_decided cars Arrived = empty cars (car_is Arrived)
+rider_phase_decided cars Abandoned = empty cars (car_is Abandoned)
+rider_phase_decided cars Resident = empty cars (car_is Resident)
 
 -- ---- hall calls: the set is 2 to the count of stops or more exactly where it has a stop that is not loaded
 
@@ -200,7 +162,7 @@ car_row_decided : (lines stops : ℕ) (c : Car) → Decides (InCar lines stops c
 unfolding car_broken
 car_row_decided lines stops c =
     less 8 c.destination_queue.count or less 8 c.door_command_queue.count or most (2 ^ 48) c.move_count or most lines c.line or phase_decided stops c.phase
-    or stop_decided stops c.target_stop
+    or option_decided stops c.target_stop
     or any (λ i. most stops (get_or c.destination_queue.items i 0)) c.destination_queue.count
 
 abbrev InRow : ℕ → ℕ → Rider → Type 0
@@ -209,7 +171,7 @@ InRow stops cars r =
 
 rider_decided : (stops cars : ℕ) (r : Rider) → Decides (InRow stops cars r) (rider_broken stops cars r)
 unfolding rider_broken
-rider_decided stops cars r = stop_decided stops r.destination or rider_phase_decided cars r.phase or car_decided cars r.aboard
+rider_decided stops cars r = option_decided stops r.destination or rider_phase_decided cars r.phase or option_decided cars r.aboard
 
 -- ---- the world
 

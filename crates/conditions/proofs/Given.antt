@@ -13,11 +13,9 @@ use Rattle.sound.specs.Sound.{broken}
 use Rattle.world.specs.Refusal.{Check, check, unless, refusal_number}
 use Rattle.world.specs.declared.World.{World}
 use Rattle.world.specs.declared.refusal.Refusal.{Refusal}
-use Rattle.world.specs.declared.refusal.Refusal.TheVariants as Refusal
 use Rattle.record.specs.Record.{Answer}
 use Rattle.std.specs.Prelude.{Ok, Err}
 use Rattle.record.specs.Record.{is_accepted, record_of}
-use Rattle.report.specs.Report.{Reported}
 use Rattle.report.specs.Report.{any_unknown, counts_of, totals_of, counted_report, report_of}
 use Rattle.conditions.specs.Refusals.{Broken, NoWord, LogKind, kind_unknown, place, places, report_places, Verdict, taken, refused, verdict, report_verdict, ByPlaces, GivenOnItsCondition}
 use Rattle.conditions.proofs.Answering.{Answers, conditions, OnItsCondition, on_its_condition}

@@ -5,3 +5,4 @@ pub mod BrokenWorld
 pub mod Asking
 pub mod ByKind
 pub mod Given
+pub mod Taking

@@ -54,6 +54,7 @@ impl fmt::Display for Refused {
 }
 
 // Record after record from an empty world. A tape of no word has one record, which is cut short.
+#[tactic(auto, using(conditions::proofs::Taking::uses_some, conditions::proofs::Taking::uses_within))]
 fn play(tape: &[u32]) -> Result<Ended, Refused> {
     let mut log = [0u32; 2048];
     let mut world = empty();

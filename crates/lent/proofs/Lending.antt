@@ -21,9 +21,8 @@ use Rattle.fields.specs.Fields.{float_at}
 use Rattle.tape.specs.Tape.{decoded}
 use Rattle.tape.specs.Tape as Tape
 use Rattle.changes.specs.Changes.{start}
-use Rattle.record.specs.Record.{Answer}
 use Rattle.record.specs.Record.{Outcome, record_of, tick_once}
-use Rattle.record.specs.Calls.{Call, outcome, next, world_after}
+use Rattle.record.specs.Calls.{outcome, next, world_after}
 use Rattle.conditions.specs.Conditions.{Kept, FirstCondition}
 use Rattle.conditions.proofs.Answering.{first_condition}
 use Rattle.lent.specs.Lent.{Lent, Made, InTurn, given, gave, left, outcomes, AsCalled, FirstLent, three, Three, Shown, LentCalls}

@@ -39,6 +39,7 @@ pub fn report_lent(world: &World, words: &[u32]) -> Reported
 }
 
 // Carries the claim that the certificate's calls are these calls.
+#[tactic(auto, using(crate::proofs::Lending::lent_calls))]
 pub fn lent_calls() -> bool
     ensures { (result ≡ true) × LentCalls }
 {

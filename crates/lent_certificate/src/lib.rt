@@ -5,6 +5,7 @@ ghost use Rattle.std.specs.Prelude.{◌≡◌, true};
 ghost use Rattle.lent_certificate.specs.LentCertificate.{ThirdLent};
 
 // Carries the third condition of lists of lent calls.
+#[tactic(auto, using(crate::proofs::Lending::third_lent))]
 pub fn third_lent() -> bool
     ensures { (result ≡ true) × ThirdLent }
 {

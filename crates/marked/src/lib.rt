@@ -5,6 +5,7 @@ ghost use Rattle.std.specs.Prelude.{◌≡◌, true};
 ghost use Rattle.marked.specs.Marked.{Marked};
 
 // Carries the claim.
+#[tactic(auto, using(crate::proofs::Computed::examples_hold))]
 pub fn marked() -> bool
     ensures { (result ≡ true) × Marked }
 {

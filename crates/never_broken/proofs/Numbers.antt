@@ -63,13 +63,10 @@ module _ (a b : ℕ) (more : a ≤ b) where
   pub still_loaded : (s : ℕ) → unloaded a s ≡ false → unloaded b s ≡ false
   still_loaded s h = lt-leb b s (omega (arith, leb-false a s h))
 
+  -- of a stop and of a car
   pub stop_stays : (s : Option ℕ) → stop_unloaded a s ≡ false → stop_unloaded b s ≡ false
   stop_stays None h = refl
   stop_stays (Some s) h = still_loaded s h
-
-  car_stays : (c : Option ℕ) → car_unloaded a c ≡ false → car_unloaded b c ≡ false
-  car_stays None h = refl
-  car_stays (Some i) h = still_loaded i h
 
   pub phase_stays : (p : ElevatorPhase) → phase_unloaded a p ≡ false → phase_unloaded b p ≡ false
   phase_stays Idle h = refl
@@ -110,7 +107,7 @@ rider_stays a b m n stops cars r h =
     let y = rider_phase_unloaded m r.phase in
     let z = car_unloaded m r.aboard in
     rw (stop_stays a b stops r.destination (or_left x y (or_left (x || y) z h)), rider_phase_stays m n cars r.phase (or_right x y (or_left (x || y) z h)))
-    (car_stays m n cars r.aboard (or_right (x || y) z h))
+    (stop_stays m n cars r.aboard (or_right (x || y) z h))
 
 -- ---- hall calls
 

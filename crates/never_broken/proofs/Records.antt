@@ -1,7 +1,7 @@
 -- Every record keeps what refusal 0 asks of a world. Assumes nothing.
 use mathlib.Core.Path.{◌≡◌, refl, sym, ◌∙◌}
 use mathlib.Core.Bool.{Bool, true, false, not, cond, true≢false}
-use mathlib.Core.List.{List, [], ◌∷◌}
+use mathlib.Core.List.{List}
 use Prim.Native.Nat.{ℕ, ◌+◌, ◌^◌, ◌<◌, ◌≤◌}
 use native.Mathlib.Omega.{arith}
 use lib.Dec.{leb, ltb, eqb}
@@ -20,7 +20,6 @@ use Rattle.world.specs.Refusal.{Check, unless, refusal_number}
 use Rattle.world.specs.declared.World.{World}
 use Rattle.world.specs.declared.Car.{Car}
 use Rattle.world.specs.declared.Line.{Line}
-use Rattle.world.specs.declared.LineKind.{LineKind}
 use Rattle.world.specs.declared.CarPlan.{CarPlan}
 use Rattle.world.specs.declared.Rider.{Rider}
 use Rattle.world.specs.declared.ElevatorPhase.{ElevatorPhase}
@@ -32,9 +31,7 @@ use Rattle.tape.specs.Tape.{decoded}
 use Rattle.tape.specs.Facts.{InBounds, Facts}
 use Rattle.tape.proofs.Bounds.{in_bounds}
 use Rattle.tape_records.specs.declared.Read.{Read}
-use Rattle.tape_records.specs.declared.Read.TheVariants as Read
 use Rattle.tape_records.specs.declared.Record.{Record}
-use Rattle.tape_records.specs.declared.Record.TheVariants as Record
 use Rattle.changes.specs.Changes as Changes
 use Rattle.loads.specs.Loads.{count_with, line_checks, stop_checks, car_checks, rider_checks, load_line, load_stop, load_car, load_rider}
 use Rattle.changes.specs.Changes.{not_next, no_such_car, start_checks, start}

@@ -5,6 +5,7 @@ ghost use Rattle.std.specs.Prelude.{◌≡◌, true};
 ghost use Rattle.never_broken.specs.NeverBroken.{NeverBroken};
 
 // Carries the claim that no list of calls from the empty world leaves a broken one.
+#[tactic(auto, using(crate::proofs::Proved::never_broken))]
 pub fn never_broken() -> bool
     ensures { (result ≡ true) × NeverBroken }
 {

@@ -1,7 +1,8 @@
 -- The room that a tick asks for, in a world that is not broken. Assumes nothing.
 use mathlib.Core.Path.{◌≡◌, refl, sym, ◌∙◌}
 use mathlib.Core.Bool.{Bool, true, false}
-use Prim.Native.Nat.{◌+◌, ◌*◌, min}
+use Prim.Native.Nat.{ℕ, ◌+◌, ◌*◌, ◌≤◌, min}
+use native.Mathlib.Nat.{mul-le-mul}
 use native.Mathlib.Omega.{arith}
 use Rattle.laws.proofs.Bools.{yes}
 use Rattle.sound.specs.Sound.{broken, counts_broken}
@@ -20,6 +21,10 @@ whole_counts w false e h = refl
 -- a world that is not broken has counts that fit their tables
 pub counted : (w : World) → broken w ≡ false → Counts w
 counted w h = counts_fit w (whole_counts w (counts_broken w) refl h)
+
+-- the room fits a machine number
+pub small : (cars stops : ℕ) → cars ≤ 16 → stops ≤ 64 → cars * (stops + 14) ≤ 16 * 78
+small cars stops h k = mul-le-mul {n₁ = cars} {m₁ = stops + 14} {n₂ = 16} {m₂ = 78} h (omega arith)
 
 pub paper_room : PaperRoom
 unfolding PaperRoom

@@ -35,6 +35,7 @@ pub fn change(world: World, read: Record) -> Changed
 }
 
 // Kind C, of a world with so many cars and stops and a log of `room` words: 6, 11 and 12, or the tick is taken.
+#[tactic(auto, using(crate::proofs::Proved::small), unfolding(crate::specs::Kinds::tick_taken))]
 pub fn take_tick(
     started: bool,
     ticks: u64,
@@ -57,6 +58,7 @@ pub fn take_tick(
 }
 
 // Carries the claim that the room which a tick asks for is the paper's number.
+#[tactic(auto, using(crate::proofs::Proved::paper_room))]
 pub fn paper_room() -> bool
     ensures { (result ≡ true) × PaperRoom }
 {

@@ -1,18 +1,18 @@
 -- fl(x - y) ≤ fl(z + y) where x < z and y has no sign, for every value of the logic: rounding keeps the order. Assumes nothing.
 use mathlib.Core.Path.{◌≡◌, refl}
-use mathlib.Core.Bool.{Bool, true, false, ◌&&◌, ◌||◌, cond}
-use Prim.Native.Nat.{ℕ, zero, suc, ◌+◌, ◌-◌, ◌*◌, ◌<◌, ◌≤◌}
+use mathlib.Core.Bool.{Bool, true, false, cond}
+use Prim.Native.Nat.{ℕ, ◌+◌, ◌-◌, ◌*◌, ◌<◌, ◌≤◌}
 use native.Mathlib.Nat.{mul-pos, mul_assoc, mul_left_comm, mul-le-mul_right, le_trans, sub-le, le-add_right}
 use native.Mathlib.Omega.{arith}
-use lib.Dec.{T, ltb, eqb}
+use lib.Dec.{T, ltb}
 use lib.IntN.{ℤ}
 use lib.Ieee.{Float, nan, inf, fin, binary64, up, down, round, sum, add, sub, neg, lt, eq, le, of_bits}
 use lib.Ieee.Fits.{down_pos}
 use lib.Ieee.Order.{round_mono}
-use borrow.Author.Tests.{ltb-true, ltb-false, eq-eqb, lt-ltb}
+use borrow.Author.Tests.{ltb-true}
 use Rattle.float.specs.Float.{epsilon}
 use Rattle.laws.proofs.Bools.{no, yes}
-use Rattle.float.proofs.Rounding.{Plus, plus_round, neg_round, le_nat}
+use Rattle.float.proofs.Rounding.{Plus, plus_round, neg_round}
 use Rattle.float.proofs.Sides.{truly, flip, astride}
 use Rattle.sorted.specs.Sorted.{position_before}
 use Rattle.sorted.proofs.Order.{not_both}

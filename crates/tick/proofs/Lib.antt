@@ -3,3 +3,4 @@ pub mod Passed
 pub mod Turns
 pub mod Runs
 pub mod Proved
+pub mod Computed

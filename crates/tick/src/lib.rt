@@ -7,6 +7,7 @@ ghost use Rattle.tick.specs.Counters.{NothingWraps};
 ghost use Rattle.tick.specs.Traps.{Traps};
 
 // Carries the claim that no tick tells more words than refusal 12 asks room for.
+#[tactic(auto, using(crate::proofs::Proved::words_fit))]
 pub fn words_fit() -> bool
     ensures { (result ≡ true) × WordsFit }
 {
@@ -14,6 +15,7 @@ pub fn words_fit() -> bool
 }
 
 // Carries the claim that a tick's moves are its passing, arrived and repositioned words, and that no counter wraps.
+#[tactic(auto, using(crate::proofs::Proved::nothing_wraps))]
 pub fn nothing_wraps() -> bool
     ensures { (result ≡ true) × NothingWraps }
 {
@@ -21,6 +23,7 @@ pub fn nothing_wraps() -> bool
 }
 
 // Carries document 01's traps and its tape, each by computing.
+#[tactic(auto, using(crate::proofs::Computed::traps))]
 pub fn traps() -> bool
     ensures { (result ≡ true) × Traps }
 {

@@ -14,8 +14,8 @@ use Rattle.study_text.specs.Text.{words_of}
 use Rattle.pieces.specs.Pieces.{Playing, next_record, goes, play_to, ends, closed, close, advanced}
 use Rattle.pieces.proofs.Sizes.{words_few}
 use Rattle.pieces.proofs.Going.{play_stops}
-use Rattle.whole_tape.specs.WholeTape.{Round, given, emptied, round, after_rounds, Ends, GetsOn, at_end}
-use Rattle.whole_tape.proofs.Joining.{kept}
+use Rattle.whole_tape.specs.WholeTape.{Round, given, emptied, round, after_rounds, Ends, GetsOn, InPieces, at_end}
+use Rattle.whole_tape.proofs.Joining.{kept, all_rounds, all_over}
 
 -- ---- bytes only go, and what is over stays so
 
@@ -123,3 +123,8 @@ ends_at p (suc n) t h =
   where
     same : (p : Playing) → length (given p []).bytes ≡ length p.bytes
     same p = ap length (append-nil p.bytes)
+
+-- ---- the pieces come to the whole tape
+
+pub in_pieces : InPieces
+in_pieces = record { rounds = all_rounds; over = all_over; gets_on = gets_on_lem; ends = ends_at }

@@ -1,10 +1,8 @@
--- What the loops keep.
-use Rattle.std.proofs.Common.{◌≡◌, ◌-◌, ◌≤◌, length, refl, ◌∙◌, arith, rules}
+-- So many records are played, by words that the tape has, and the log keeps its length.
+use Rattle.std.proofs.Common.{◌≡◌, ◌≤◌, length}
 use Rattle.beside_ticks.specs.Bench.{played_to, Reached}
-use Rattle.laws.specs.Numbers.{plus}
-use Rattle.beside_ticks.proofs.Playing.{begins, rest_of, within, stays, again}
 use Rattle.beside_ticks.proofs.by_value.Given as goal
 
-abbrev pub invariant-loop-i : goal.invariant-loop-i
-invariant-loop-i l =
-    (l.i ≤ l.records) × (l.used ≤ length l.words) × (length l.log ≡ length l.initial.log) × Reached (played_to l.words l.initial.log l.i) l.made.world l.log l.used l.written
+abbrev pub invariant-loop : goal.invariant-loop
+invariant-loop l =
+    (l.counter ≤ l.records) × (l.used ≤ length l.words) × (length l.log ≡ length l.initial.log) × Reached (played_to l.words l.initial.log l.counter) l.made.world l.log l.used l.written

@@ -1,4 +1,4 @@
--- `marked::marked` meets its contract: every example computes. Assumes nothing.
+-- Every marked example computes. Assumes nothing.
 use mathlib.Core.Path.{refl}
 use lib.Ieee.{of_bits, add, sub, mul, div, rem, neg, lt, le, eq, is_nan}
 use Rattle.float.specs.Float.{abs, signum, is_finite, max, rem_euclid}
@@ -8,11 +8,7 @@ use Rattle.velocity.specs.Velocity.{decelerated, accelerated, new_velocity}
 use Rattle.door.specs.Phases.{after, transition_at}
 use Rattle.next_stop.specs.NextStop.{ahead_of, nearest_to, loop_next_stop_forward}
 use Rattle.marked.specs.Marked.{Marked, Hold}
-use Rattle.marked.proofs.marked.Goals as goal
 
-examples_hold : Marked
+pub examples_hold : Marked
 unfolding Marked Hold tick_movement new_velocity decelerated accelerated wrap_position forward_distance headway_clamp_target transition_at after loop_next_stop_forward nearest_to ahead_of abs signum is_finite max rem_euclid of_bits add sub mul div rem neg lt le eq is_nan
 examples_hold = (refl, (refl, (refl, (refl, (refl, (refl, (refl, (refl, (refl, (refl, (refl, (refl, (refl, (refl, tt))))))))))))))
-
-pub returns : goal.returns
-returns c = (refl, examples_hold)

@@ -1,4 +1,4 @@
--- `tick::traps` meets its contract: every example computes. Assumes nothing.
+-- The traps and the tape compute. Assumes nothing.
 use mathlib.Core.Path.{refl}
 use lib.Ieee.{of_bits, add, sub, mul, div, rem, neg, lt, le, eq, is_nan}
 use Rattle.float.specs.Float.{abs, signum, is_finite, max, rem_euclid}
@@ -22,9 +22,8 @@ use Rattle.hall_calls.specs.Clearing.{clear_word, clear_to, clear_words_to}
 use Rattle.tick.specs.Tick.{tick_world, tick_words}
 use Rattle.tick.specs.Room.{room_of}
 use Rattle.tick.specs.Traps.{Traps, world_after_ticks, words_of_ticks}
-use Rattle.tick.proofs.traps.Goals as goal
 
-traps : Traps
+pub traps : Traps
 unfolding world_after_ticks words_of_ticks room_of empty_world tick_world tick_words moved move_of doors_world doors_words doored door_of clear_word clear_to clear_words_to work_to work_words_to process_door_commands command_words count_in start_of end_of between unless_target without emit_range passing_words riders_to queued_to direction_from_remaining_work popped plus line_of run_to run_cars word tick_word position_before stop_before inserted sorted_stops leader_to loop_leader_pos loop_next_stop_for_car called decelerated accelerated new_velocity tick_movement tick_movement_cyclic headway_clamp_target wrap_position forward_distance abs signum is_finite max rem_euclid of_bits add sub mul div rem neg lt le eq is_nan
 traps = record {
   plus_zero = refl;
@@ -46,6 +45,3 @@ traps = record {
   moves = refl;
   room = refl;
 }
-
-pub returns : goal.returns
-returns c = (refl, traps)
