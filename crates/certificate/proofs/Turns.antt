@@ -172,10 +172,10 @@ module _ (i : ℕ) (low : i < 16) (c : Car) (tame : is_manual c.service_mode ≡
   opened_good : (o : Bool) (od cd : ℕ) → Turns o (finished_opening i (rested c c.phase (Open od cd)))
   opened_good o od cd = record { end = true; told = told_word i low 6 0 0 (λ h. no h) refl; fit = record { sound = loading; tame = tame } }
 
-  closed_good : (o : Bool) (next : Option ℕ) → Turns o (finished_closing next i (rested c c.phase Closed))
-  closed_good o next = record { end = false; told = closed_told i (rested c c.phase Closed) next (told_word i low 7 0 0 (λ h. no h) refl); fit = fit next }
+  closed_good : (o : Bool) (p : ElevatorPhase) (next : Option ℕ) → Turns o (finished_closing next i (rested c p Closed))
+  closed_good o p next = record { end = false; told = closed_told i (rested c p Closed) next (told_word i low 7 0 0 (λ h. no h) refl); fit = fit next }
     where
-      fit : (next : Option ℕ) → Fit (finished_closing next i (rested c c.phase Closed)).car false
+      fit : (next : Option ℕ) → Fit (finished_closing next i (rested c p Closed)).car false
       fit None = record { sound = stopped; tame = tame }
       fit (Some s) = record { sound = moving; tame = tame }
 
@@ -194,7 +194,7 @@ module _ (i : ℕ) (low : i < 16) (c : Car) (tame : is_manual c.service_mode ≡
       (rests_good b Loading (Open (t - 1) cd) loading))
   door_by_lem next p d o (closing {t} {o = b}) =
       both (Turns b) (is_inspection c.service_mode && false) (rests_good b DoorClosing (Closing t) closing)
-      (both (λ (y : Ticked). Turns b (finish_by y.transition i (rested c DoorClosing y.door) next)) (leb t 1) (closed_good b next)
+      (both (λ (y : Ticked). Turns b (finish_by y.transition i (rested c DoorClosing y.door) next)) (leb t 1) (closed_good b DoorClosing next)
       (rests_good b DoorClosing (Closing (t - 1)) closing))
 
 -- words before a turn

@@ -59,6 +59,7 @@ pub more : {turn : World → ℕ → Step} {world w : World} {l l' l'' : Log} {i
     → Runs turn world l (i + 1) (stepped w i s) (set opened i s.opened) l''
 unfolding run_to
 more s k e h = record { left = rw (add-one, ← k.left, e); opens = rw (add-one, ← k.left, e, ← k.opens); told = rw (add-one, ← k.left, e) (told_also k.told h) }
+
 -- a turn that is skipped, and one that is not
 out : (b : Bool) (t u : Turn) {l l' : Log} {d : Car} {o : Option JustOpened} → b ≡ false → Turns u l l' d o → Turns (cond b t u) l l' d o
 out b t u e h = rw e h

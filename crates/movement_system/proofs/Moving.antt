@@ -142,11 +142,6 @@ pub calls_kept : {turn : World → ℕ → Step} {world w : World} {l l' : Log} 
     → standing w ≡ standing world
 calls_kept {turn} {world} {w} {l} {l'} {i} k = ap standing k.left ∙ kept turn world standing (λ v j s. refl) i
 
--- the same calls cleared by the same cars
-pub cleared : (opened : List (Option JustOpened)) {a b : Calls} {n m : ℕ} {l l' : Log} {r : Calls} → a ≡ b → n ≡ m
-    → Clears (clear_to opened a n) (clear_words_to opened a n) l l' r → Clears (clear_to opened b m) (clear_words_to opened b m) l l' r
-cleared opened e f h = rw (← e, ← f) h
-
 -- all cars' moves, then their doors: what both leave and write
 pub doored_after : (dt : Float) (world : World) {w v : World} {l l' l'' : Log} → Moves (move_of dt) world l (min world.cars.count 16) w l'
     → v ≡ doors_world w → Told l' (doors_words w) l''
