@@ -1,10 +1,11 @@
 -- The search of the first stop at a position, a candidate at a time. Assumes nothing.
-use mathlib.Core.Path.{◌≡◌, ◌∙◌}
+use mathlib.Core.Path.{◌≡◌, ◌∙◌, sym}
 use mathlib.Core.Bool.{true, false, cond}
 use mathlib.Core.List.{List}
 use Prim.Native.Nat.{ℕ, suc, ◌+◌, ◌-◌, ◌≤◌, ◌<◌}
 use native.Mathlib.Omega.{arith}
-use lib.Ieee.{Float}
+use lib.ListN.{length, get_or-eq_default}
+use lib.Ieee.{Float, nan, of_bits, binary64}
 use Rattle.std.proofs.lemmas.List.{get_or-take}
 use Rattle.world.specs.World.{stop_at}
 use Rattle.lookup.specs.Stops.{stands_at, first_standing}
@@ -32,3 +33,8 @@ module _ (stops : List Float) (position : Float) (candidate : ℕ → ℕ) (n i 
 
 -- one turn of a search, in the stops or in a list
 pub ruleset standing = (found, passed, ended, get_or-take)
+
+-- past the table's end there is no position
+pub past_the_table : (stops : List Float) (s : ℕ) → length stops ≤ s → of_bits binary64 0x7ff8_0000_0000_0000 ≡ stop_at stops s
+unfolding of_bits
+past_the_table stops s h = sym (get_or-eq_default stops nan h)

@@ -9,12 +9,14 @@ use world::{Line, Serves, Stops, Table};
 const STOP_POSITION_EPSILON: f64 = 1e-6;
 
 // world.rs, stop_position. Not a number past the table.
+#[tactic(auto, using(crate::proofs::Standing::past_the_table))]
 pub fn stop_position(stops: &[f64; 64], s: u8) -> f64
     ensures { result ≡ stop_at stops.now s }
 {
-    let stops = &stops[..];
-    let s = s as usize;
-    if s < stops.len() { stops[s] } else { f64::NAN }
+    match stops.get(s as usize) {
+        Some(position) => *position,
+        None => f64::NAN,
+    }
 }
 
 // Whether a stop stands at a position.
