@@ -115,7 +115,9 @@ fn play_bytes(
     ensures { Reached result bytes.now out.old log.new out.new (play_to (2 + length bytes.now) ended (playing study log.old bytes.now)) }
 {
     let mut words = [0u32; 4096];
-    let count = words_of(bytes, &mut words);
+    let mut read = Writer::new(&mut words);
+    words_of(bytes, &mut read);
+    let count = read.at;
     play_words(study, bytes, &words[..count], ended, log, out)
 }
 

@@ -17,4 +17,4 @@ pub returns : goal.returns
 returns c =
     let chunks = c.as_chunks.ensures.front in
     let all = rw (take_all c.loop-four.four-index c.as_chunks.result.0.now (omega arith)) at c.loop-four.invariant in
-    rw (← words_are c.args.bytes.now, ← chunks) (search (rules, all.wrote, all.slice))
+    rw (← words_are c.args.bytes.now, ← chunks) all
