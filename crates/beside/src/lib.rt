@@ -2,4 +2,4 @@
 #![tactic(auto)]
 
 pub mod doors; // the door of crate `door`
-pub mod floats; // f64's methods, fma and the manual ramp of crate `motion`
+pub mod floats; // f64's methods, fma and the manual ramp of crate `velocity`

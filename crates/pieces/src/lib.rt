@@ -84,7 +84,7 @@ fn play_words(
     let mut counts = study.counts;
     let mut over = study.over;
     let mut from: usize = 0;
-    // Stays: a while: the loop goes on by what was told last, and counts no index.
+    // Stays: a while: its condition asks what was told last, and a record says itself how many words it used.
     while goes(ended, over, words.len() - from, out.at) {
         made = turn(made.world, &words[from..], log);
         let answer = made.answer;
