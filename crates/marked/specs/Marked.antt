@@ -12,7 +12,7 @@ use Rattle.door.specs.declared.DoorTransition.{DoorTransition}
 use Rattle.door.specs.declared.DoorTransition.TheVariants.{FinishedOpening, FinishedOpen, FinishedClosing}
 use Rattle.next_stop.specs.NextStop.{loop_next_stop_forward}
 use Rattle.std.specs.declared.option.Option.{Option}
-use Rattle.std.specs.declared.option.Option.TheVariants.{Some}
+use Rattle.std.specs.declared.option.Option.TheVariants.{None, Some}
 
 -- ---- the numbers
 
