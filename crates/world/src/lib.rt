@@ -3,7 +3,7 @@
 #![tactic(auto)]
 
 ghost use Rattle.std.specs.Prelude.{◌≡◌};
-ghost use Rattle.world.specs.Tables.{of_none, pushed};
+ghost use Rattle.world.specs.Tables.{of_none, listed, pushed};
 
 pub mod empty; // a new car, the empty world
 pub mod refusal; // the refusals and their numbers
@@ -36,6 +36,13 @@ impl<T: Copy, const N: usize> Table<T, N> {
     {
         let items = [item; N];
         Table { items, count: 0 }
+    }
+
+    // The items that are there. A count above the size is taken as the size.
+    pub fn as_slice(&self) -> &[T]
+        ensures { result.now ≡ listed self.now }
+    {
+        &self.items[..self.count.min(N)]
     }
 
     // With one more item at its end; None where it is full.
