@@ -19,8 +19,8 @@ use Rattle.log_words.specs.declared.Event.TheVariants.{TickMade}
 use Rattle.read_back.proofs.Reading.{kind_tick}
 use Rattle.steps.specs.declared.JustOpened.{JustOpened}
 use Rattle.movement_system.specs.Movement.{move_of, moved}
-use Rattle.doors_system.specs.Doors.{standing, cars_of, door_of, doored, doors_world, doors_words}
-use Rattle.hall_calls.specs.declared.Calls.{Calls}
+use Rattle.doors_system.specs.Doors.{cars_of, door_of, doored, doors_world, doors_words}
+use Rattle.world.specs.declared.Calls.{Calls}
 use Rattle.hall_calls.specs.Clearing.{clears, clear_word, clear_matching_words, opened_of, clear_to, clear_words_to}
 use Rattle.tick.specs.Tick.{tick_world, tick_words}
 use Rattle.tick.specs.Counters.{moves_in, sum_to, count_of, Low, Counts, NothingWraps}
@@ -104,8 +104,8 @@ regroup l x a b c = simp append_assoc
 pub tick_ticks : (n : ℕ) (w : World) (dt : Float) (log : List ℕ) → length w.cars.items ≡ 16 → Held n w.cars.items w.cars.count log → Ticks n w dt log
 unfolding tick_world tick_words doors_world doors_words
 tick_ticks n w dt log full h = record {
-  held = rw (doored_count v, regroup log (word_of (TickMade w.ticks)) (moved w dt).words (doored v).words (clear_words_to os (standing v) (cars_of v)))
-      (held_same d.held refl (λ o. calls_told n o os (standing v) (cars_of v)));
+  held = rw (doored_count v, regroup log (word_of (TickMade w.ticks)) (moved w dt).words (doored v).words (clear_words_to os v.calls (cars_of v)))
+      (held_same d.held refl (λ o. calls_told n o os v.calls (cars_of v)));
   stands = λ q. ap (λ (m : Motion). m.position) d.keeps ∙ ap (λ (c : Car). c.motion.position) (m.keeps q);
 }
   where

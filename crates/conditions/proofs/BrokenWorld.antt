@@ -194,7 +194,7 @@ module _ (w : World) where
       ⊎ (2 ^ 48 ≤ w.total_moves)
 
   abbrev Parts : Type 0
-  Parts = ((((Counted ⊎ AnyLine) ⊎ AnyCar) ⊎ AnyRider) ⊎ AnyCall w.up_calls) ⊎ AnyCall w.down_calls
+  Parts = ((((Counted ⊎ AnyLine) ⊎ AnyCar) ⊎ AnyRider) ⊎ AnyCall w.calls.up) ⊎ AnyCall w.calls.down
 
   counts_decided : Decides Counted (counts_broken w)
   unfolding counts_broken
@@ -209,8 +209,8 @@ module _ (w : World) where
       or any (λ i. line_decided w.stops.count (line_at w.lines.items i)) w.lines.count
       or any (λ i. car_row_decided w.lines.count w.stops.count (car_at w.cars.items i)) w.cars.count
       or any (λ i. rider_decided w.stops.count w.cars.count (rider_at w.riders.items i)) w.riders.count
-      or calls_decided w.stops.count w.up_calls
-      or calls_decided w.stops.count w.down_calls
+      or calls_decided w.stops.count w.calls.up
+      or calls_decided w.stops.count w.calls.down
 
   of_counts : Counted → Broken w
   of_counts (inl (inl (inl (inl (inl x))))) = stops_above x

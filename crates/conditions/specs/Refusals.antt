@@ -144,8 +144,8 @@ pub data Broken (w : World) : Type 0 where
   aboard_unloaded :
       (r c : ℕ) → r < w.riders.count → (rider_at w.riders.items r).aboard ≡ Some c → w.cars.count ≤ c → Broken w
   -- the stop of a hall call
-  up_unloaded : (stop : ℕ) → w.stops.count ≤ stop → called w.up_calls stop ≡ true → Broken w
-  down_unloaded : (stop : ℕ) → w.stops.count ≤ stop → called w.down_calls stop ≡ true → Broken w
+  up_unloaded : (stop : ℕ) → w.stops.count ≤ stop → called w.calls.up stop ≡ true → Broken w
+  down_unloaded : (stop : ℕ) → w.stops.count ≤ stop → called w.calls.down stop ≡ true → Broken w
 
 -- ---- 1: "no word, or a body cut short", asked in two places
 

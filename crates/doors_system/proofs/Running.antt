@@ -33,7 +33,7 @@ use Rattle.door_ticks.specs.Ticks.{Turn, rests, stays, door_by, Turns}
 use Rattle.hall_calls.specs.Clearing.{Clears, clear_to, clear_words_to}
 use Rattle.door.specs.declared.DoorCommand.{DoorCommand}
 use Rattle.world.specs.Tables.{Queue}
-use Rattle.hall_calls.specs.declared.Calls.{Calls}
+use Rattle.world.specs.declared.Calls.{Calls}
 use Rattle.hall_calls.proofs.First.{first}
 use Rattle.door_commands.proofs.Working.{no_work, no_words, only}
 
@@ -159,12 +159,12 @@ places turn w n =
 -- all cars' turns, then the hall calls, by what the cars have opened
 pub ended : {world w : World} {l l' l'' : Log} {n : ℕ} {opened : List (Option JustOpened)} {calls r : Calls} → Runs door_of world l (cars_of world) w opened l'
     → n ≡ cars_of world
-    → calls ≡ standing world
+    → calls ≡ world.calls
     → Clears (clear_to (take n opened) calls (min (length (take n opened)) 16)) (clear_words_to (take n opened) calls (min (length (take n opened)) 16)) l' l'' r
-    → (with_people w w.riders r.up r.down ≡ doors_world world) × Told l (doors_words world) l''
+    → (with_people w w.riders r ≡ doors_world world) × Told l (doors_words world) l''
 unfolding doors_world doors_words doored run_cars
 ended {world = world} {l' = l'} {l'' = l''} {n = n} {opened = opened} {calls = calls} {r = r} k e f h =
     let s : length opened ≡ 16 = ap length k.opens ∙ places door_of world (cars_of world) in
     let g : Clears (clear_to opened calls n) (clear_words_to opened calls n) l' l'' r = first opened calls n (omega (arith, e)) (omega (arith, s, e)) h in
-    let c : Clears (clear_to opened (standing world) (cars_of world)) (clear_words_to opened (standing world) (cars_of world)) l' l'' r = rw (← e, ← f) g in
+    let c : Clears (clear_to opened world.calls (cars_of world)) (clear_words_to opened world.calls (cars_of world)) l' l'' r = rw (← e, ← f) g in
     (rw (← k.left, ← k.opens, ← c.calls), rw (← k.opens) (told_also k.told c.told))

@@ -10,7 +10,6 @@ use Rattle.next_stop.specs.NextStop.{loop_next_stop_for_car}
 use Rattle.steps.specs.Steps.{line_of, Step, Run, step_of, run_cars}
 use Rattle.door_commands.specs.Commands.{at_stop, has_rider_traversing, process_door_commands, command_words}
 use Rattle.door_ticks.specs.Ticks.{Turn, rests, stays, door_by, after}
-use Rattle.hall_calls.specs.declared.Calls.{Calls}
 use Rattle.hall_calls.specs.Clearing.{clear_to, clear_words_to}
 
 -- run, for one car: "queued commands, loop's next stop, then the door's tick"
@@ -43,17 +42,12 @@ door_of w i = step_by w (turn_on w i (car_at w.cars.items i) (line_of w.lines.it
 unfoldable pub doored : World → Run
 doored w = run_cars door_of w
 
--- the calls standing in both directions
-abbrev pub standing : World → Calls
-standing w = record { up = w.up_calls; down = w.down_calls }
-
 abbrev pub cars_of : World → ℕ
 cars_of w = min w.cars.count 16
 
 unfoldable pub doors_world : World → World
 doors_world w =
-    let h = clear_to (doored w).opened (standing w) (cars_of w) in
-    with_people (doored w).world (doored w).world.riders h.up h.down
+    with_people (doored w).world (doored w).world.riders (clear_to (doored w).opened w.calls (cars_of w))
 
 unfoldable pub doors_words : World → List ℕ
-doors_words w = (doored w).words ++ clear_words_to (doored w).opened (standing w) (cars_of w)
+doors_words w = (doored w).words ++ clear_words_to (doored w).opened w.calls (cars_of w)

@@ -29,8 +29,8 @@ impl fmt::Display for Ended {
             self.world.lines.count,
             self.world.cars.count,
             self.world.riders.count,
-            self.world.up_calls,
-            self.world.down_calls
+            self.world.calls.up,
+            self.world.calls.down
         )
     }
 }

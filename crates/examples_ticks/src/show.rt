@@ -204,8 +204,8 @@ impl fmt::Display for Tick<'_> {
             "{} {:016x} {} {}",
             Number(world.total_moves),
             bits(world.reposition_distance),
-            Number(world.up_calls),
-            Number(world.down_calls)
+            Number(world.calls.up),
+            Number(world.calls.down)
         )
     }
 }

@@ -8,7 +8,7 @@ use Rattle.std.proofs.lemmas.List.{get_or-take, length-take}
 use Rattle.std.specs.declared.option.Option.{Option}
 use Rattle.steps.specs.Steps.{not_opened}
 use Rattle.steps.specs.declared.JustOpened.{JustOpened}
-use Rattle.hall_calls.specs.declared.Calls.{Calls}
+use Rattle.world.specs.declared.Calls.{Calls}
 use Rattle.hall_calls.specs.Clearing.{clear_to, clear_words_to, Clears}
 use Rattle.log_writes.specs.Told.{Log}
 

@@ -8,7 +8,7 @@ use Rattle.log_writes.specs.Told.{Told, Log}
 use Rattle.log_words.specs.declared.Event.TheVariants.{HallCallCleared}
 use Rattle.steps.specs.Steps.{not_opened}
 use Rattle.steps.specs.declared.JustOpened.{JustOpened}
-use Rattle.hall_calls.specs.declared.Calls.{Calls}
+use Rattle.world.specs.declared.Calls.{Calls}
 
 -- clear_matching_hall_calls, in one direction: the calls then, and the word
 abbrev pub clears : ℕ → ℕ → Bool → Bool

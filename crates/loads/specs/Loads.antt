@@ -64,7 +64,7 @@ rider_checks w number rider =
 
 abbrev pub with_rider : World → ℕ → Rider → World
 with_rider w number rider =
-    with_people w (with_item w.riders number rider (count_with w.riders.count number)) w.up_calls w.down_calls
+    with_people w (with_item w.riders number rider (count_with w.riders.count number)) w.calls
 
 unfoldable pub load_rider : World → ℕ → Rider → Changed
 load_rider w number rider = unless (rider_checks w number rider) (refused w) (accepted (with_rider w number rider))

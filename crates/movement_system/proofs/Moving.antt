@@ -28,7 +28,7 @@ use Rattle.steps.proofs.Cars.{kept, stepped_same}
 use Rattle.doors_system.specs.Doors.{standing, doors_world, doors_words}
 use Rattle.doors_system.proofs.Running.{Runs}
 use Rattle.hall_calls.specs.Clearing.{Clears, clear_to, clear_words_to}
-use Rattle.hall_calls.specs.declared.Calls.{Calls}
+use Rattle.world.specs.declared.Calls.{Calls}
 use Rattle.world.specs.declared.Lamps.{Lamps}
 use Rattle.world.specs.Tables.{Stops}
 use Rattle.trips.specs.Trips.{is_trip, is_loop, trip_of}
@@ -110,8 +110,7 @@ after w cars total distance = record {
   lines = w.lines;
   cars = record { items = cars; count = w.cars.count };
   riders = w.riders;
-  up_calls = w.up_calls;
-  down_calls = w.down_calls;
+  calls = w.calls;
   started = w.started;
   ticks = w.ticks;
   total_moves = total;

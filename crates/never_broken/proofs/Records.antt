@@ -221,8 +221,8 @@ module _ (w : World) (h : Sound w) (log : List ℕ) (used : ℕ) where
               riders = h.shape.riders;
               calls =
                   record {
-                    up = both (λ (x : ℕ). x < 2 ^ w.stops.count) down h.shape.calls.up (press w.up_calls h.shape.calls.up);
-                    down = both (λ (x : ℕ). x < 2 ^ w.stops.count) down (press w.down_calls h.shape.calls.down) h.shape.calls.down;
+                    up = both (λ (x : ℕ). x < 2 ^ w.stops.count) down h.shape.calls.up (press w.calls.up h.shape.calls.up);
+                    down = both (λ (x : ℕ). x < 2 ^ w.stops.count) down (press w.calls.down h.shape.calls.down) h.shape.calls.down;
                   };
             };
       })

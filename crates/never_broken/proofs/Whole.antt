@@ -47,8 +47,8 @@ whole w h =
       none_to (λ i. line_broken w.stops.count (line_at w.lines.items i)) w.lines.count h.shape.plan.each,
       none_to (λ i. car_broken w.lines.count w.stops.count (car_at w.cars.items i)) w.cars.count cars,
       none_to (λ i. rider_broken w.stops.count w.cars.count (rider_at w.riders.items i)) w.riders.count h.shape.riders.each,
-      lt-leb (2 ^ w.stops.count) w.up_calls h.shape.calls.up,
-      lt-leb (2 ^ w.stops.count) w.down_calls h.shape.calls.down,
+      lt-leb (2 ^ w.stops.count) w.calls.up h.shape.calls.up,
+      lt-leb (2 ^ w.stops.count) w.calls.down h.shape.calls.down,
     )
   where
     cars : (i : ℕ) → i < w.cars.count → car_broken w.lines.count w.stops.count (car_at w.cars.items i) ≡ false

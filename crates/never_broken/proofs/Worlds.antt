@@ -21,7 +21,7 @@ use Rattle.steps.specs.declared.JustOpened.{JustOpened}
 use Rattle.movement_system.specs.Movement.{move_of, moved}
 use Rattle.door_commands.specs.Commands.{at_stop, has_rider_traversing}
 use Rattle.doors_system.specs.Doors.{door_of, doored, standing, cars_of, doors_world}
-use Rattle.hall_calls.specs.declared.Calls.{Calls}
+use Rattle.world.specs.declared.Calls.{Calls}
 use Rattle.hall_calls.specs.Clearing.{clears, clear_one, clear_matching, clear_to, opened_of}
 use Rattle.tick.specs.Tick.{tick_world}
 use Rattle.tick.specs.Counters.{Counts, NothingWraps}
@@ -57,7 +57,7 @@ pub record Parts (stopCount lineCount carCount riderCount ups downs : ℕ) (rows
 
 abbrev pub Shape : World → Type 0
 Shape w =
-    Parts w.stops.count w.lines.count w.cars.count w.riders.count w.up_calls w.down_calls w.lines.items w.cars.items w.riders.items
+    Parts w.stops.count w.lines.count w.cars.count w.riders.count w.calls.up w.calls.down w.lines.items w.cars.items w.riders.items
 
 -- a tick has at most 64 moves a car, and there are 2 to the 28 of them
 pub record Counters (ticks total cars : ℕ) (table : List Car) : Type 0 where

@@ -10,8 +10,8 @@ pub record Empty (w : World) : Type 0 where
   pub lines : w.lines.count ≡ 0
   pub cars : w.cars.count ≡ 0
   pub riders : w.riders.count ≡ 0
-  pub up : w.up_calls ≡ 0
-  pub down : w.down_calls ≡ 0
+  pub up : w.calls.up ≡ 0
+  pub down : w.calls.down ≡ 0
   pub started : w.started ≡ false
   pub ticks : w.ticks ≡ 0
   pub moves : w.total_moves ≡ 0

@@ -9,7 +9,7 @@ use arrival::{asks_work, work_of};
 use changes::{Answered, refused};
 use door_commands::has_rider_traversing;
 use doors_system::{door_turn, has_turn};
-use hall_calls::{Calls, clear_hall_calls};
+use hall_calls::clear_hall_calls;
 use landing::{landing, leader_of};
 use log_words::Event;
 use log_writes::Log;
@@ -115,13 +115,7 @@ pub fn record(world: World, words: &[u32], log: &mut [u32]) -> Recorded
             w.cars.items[i] = car;
         }
     }
-    let standing = Calls {
-        up: w.up_calls,
-        down: w.down_calls,
-    };
-    let calls = clear_hall_calls(&mut log, &just_opened[..cars], standing);
-    w.up_calls = calls.up;
-    w.down_calls = calls.down;
+    w.calls = clear_hall_calls(&mut log, &just_opened[..cars], w.calls);
     w.ticks = w.ticks.wrapping_add(1);
     Answered {
         answer: Ok(Accepted {

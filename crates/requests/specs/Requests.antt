@@ -38,8 +38,7 @@ call_checks w stop =
 abbrev pub with_call : World → ℕ → Bool → World
 with_call w stop down =
     with_people w w.riders
-    (cond down w.up_calls (pressed w.up_calls stop))
-    (cond down (pressed w.down_calls stop) w.down_calls)
+    (record { up = cond down w.calls.up (pressed w.calls.up stop); down = cond down (pressed w.calls.down stop) w.calls.down })
 
 unfoldable pub press_hall_call : World → ℕ → Bool → Changed
 press_hall_call w stop down = unless (call_checks w stop) (refused w) (accepted (with_call w stop down))

@@ -42,9 +42,9 @@ pub fn press_hall_call(world: World, stop: u8, down: bool) -> Changed
     }
     let mut next = world;
     if down {
-        next.down_calls = pressed(world.down_calls, stop);
+        next.calls.down = pressed(world.calls.down, stop);
     } else {
-        next.up_calls = pressed(world.up_calls, stop);
+        next.calls.up = pressed(world.calls.up, stop);
     }
     accepted(next)
 }

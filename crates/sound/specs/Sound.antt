@@ -25,5 +25,5 @@ broken w =
     || any_to (λ i. car_broken w.lines.count w.stops.count (car_at w.cars.items i)) w.cars.count
     || any_to (λ i. rider_broken w.stops.count w.cars.count (rider_at w.riders.items i)) w.riders.count
     -- a hall call's stop
-    || calls_unloaded w.stops.count w.up_calls
-    || calls_unloaded w.stops.count w.down_calls
+    || calls_unloaded w.stops.count w.calls.up
+    || calls_unloaded w.stops.count w.calls.down

@@ -66,6 +66,6 @@ pub fn broken(world: &World) -> bool
     lines_broken(stops, &world.lines.items[..world.lines.count])
         | cars_broken(world.lines.count, stops, &world.cars.items[..cars])
         | riders_broken(stops, cars, &world.riders.items[..world.riders.count])
-        | calls_unloaded(stops, world.up_calls)
-        | calls_unloaded(stops, world.down_calls)
+        | calls_unloaded(stops, world.calls.up)
+        | calls_unloaded(stops, world.calls.down)
 }

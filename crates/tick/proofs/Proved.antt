@@ -16,8 +16,8 @@ use Rattle.steps.specs.Steps.{run_to, run_cars}
 use Rattle.steps.proofs.Cars.{kept}
 use Rattle.steps.specs.declared.JustOpened.{JustOpened}
 use Rattle.movement_system.specs.Movement.{move_of, moved}
-use Rattle.doors_system.specs.Doors.{standing, cars_of, door_of, doored, doors_world, doors_words}
-use Rattle.hall_calls.specs.declared.Calls.{Calls}
+use Rattle.doors_system.specs.Doors.{cars_of, door_of, doored, doors_world, doors_words}
+use Rattle.world.specs.declared.Calls.{Calls}
 use Rattle.hall_calls.specs.Clearing.{clears, clear_word, clear_matching_words, opened_of, clear_to, clear_words_to}
 use Rattle.tick.specs.Tick.{tick_world, tick_words}
 use Rattle.tick.specs.Room.{room_of, WordsFit}
@@ -72,11 +72,11 @@ words_fit w dt =
     let os : List (Option JustOpened) = (doored v).opened in
     omega (
       arith,
-      parts (moved w dt).words (doored v).words (clear_words_to os (standing v) (cars_of v)),
+      parts (moved w dt).words (doored v).words (clear_words_to os v.calls (cars_of v)),
       (moved_told w dt).size,
       same_count w dt,
       (doored_told v).size,
-      (calls_quiet os (standing v) (cars_of v)).size,
+      (calls_quiet os v.calls (cars_of v)).size,
     )
 
 -- ---- the counters
@@ -125,11 +125,11 @@ module _ (w : World) (dt : Float) (low : Low w) where
       rw (kind_tick w.ticks)
       (omega (
         arith,
-        move_parts (moved w dt).words (doored v).words (clear_words_to (doored v).opened (standing v) (cars_of v)),
+        move_parts (moved w dt).words (doored v).words (clear_words_to (doored v).opened v.calls (cars_of v)),
         (moved_told w dt).told,
         (doored_told v).told,
         (doored_told v).few,
-        (calls_quiet (doored v).opened (standing v) (cars_of v)).none,
+        (calls_quiet (doored v).opened v.calls (cars_of v)).none,
       ))
 
   cars : (i : ℕ) → i < cars_of w → count_of (tick_world w dt) i ≡ count_of w i + moves_of (move_of dt) w i

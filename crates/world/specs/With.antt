@@ -8,6 +8,7 @@ use Rattle.world.specs.Tables.{Queue, Stops, with_item}
 use Rattle.world.specs.declared.Lamps.{Lamps}
 use Rattle.world.specs.declared.Car.{Car}
 use Rattle.world.specs.declared.Line.{Line}
+use Rattle.world.specs.declared.Calls.{Calls}
 use Rattle.world.specs.declared.Rider.{Rider}
 use Rattle.door.specs.declared.DoorCommand.{DoorCommand}
 use Rattle.world.specs.declared.ElevatorPhase.{ElevatorPhase}
@@ -20,8 +21,7 @@ with_plan w stops lines started = record {
   lines = lines;
   cars = w.cars;
   riders = w.riders;
-  up_calls = w.up_calls;
-  down_calls = w.down_calls;
+  calls = w.calls;
   started = started;
   ticks = w.ticks;
   total_moves = w.total_moves;
@@ -35,8 +35,7 @@ with_cars w cars = record {
   lines = w.lines;
   cars = cars;
   riders = w.riders;
-  up_calls = w.up_calls;
-  down_calls = w.down_calls;
+  calls = w.calls;
   started = w.started;
   ticks = w.ticks;
   total_moves = w.total_moves;
@@ -48,14 +47,13 @@ abbrev pub with_car : World → ℕ → Car → World
 with_car w i c = with_cars w (with_item w.cars i c w.cars.count)
 
 -- its riders and hall calls
-abbrev pub with_people : World → Table Rider 128 → ℕ → ℕ → World
-with_people w riders up down = record {
+abbrev pub with_people : World → Table Rider 128 → Calls → World
+with_people w riders calls = record {
   stops = w.stops;
   lines = w.lines;
   cars = w.cars;
   riders = riders;
-  up_calls = up;
-  down_calls = down;
+  calls = calls;
   started = w.started;
   ticks = w.ticks;
   total_moves = w.total_moves;
@@ -69,8 +67,7 @@ with_turn w i c total distance = record {
   lines = w.lines;
   cars = with_item w.cars i c w.cars.count;
   riders = w.riders;
-  up_calls = w.up_calls;
-  down_calls = w.down_calls;
+  calls = w.calls;
   started = w.started;
   ticks = w.ticks;
   total_moves = total;
@@ -84,8 +81,7 @@ with_ticks w ticks = record {
   lines = w.lines;
   cars = w.cars;
   riders = w.riders;
-  up_calls = w.up_calls;
-  down_calls = w.down_calls;
+  calls = w.calls;
   started = w.started;
   ticks = ticks;
   total_moves = w.total_moves;

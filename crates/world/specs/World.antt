@@ -115,8 +115,7 @@ empty_world = record {
   lines = of_none 8 (record { kind = Linear; serves = serves_none });
   cars = of_none 16 empty_car;
   riders = of_none 128 no_rider;
-  up_calls = 0;
-  down_calls = 0;
+  calls = record { up = 0; down = 0 };
   started = false;
   ticks = 0;
   total_moves = 0;

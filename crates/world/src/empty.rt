@@ -3,7 +3,7 @@ ghost use Rattle.std.specs.Prelude.{◌≡◌};
 ghost use Rattle.world.specs.World.{new_car, empty_car, empty_world};
 
 use crate::{
-    Car, CarPlan, ElevatorPhase, Lamps, Line, LineKind, Rider, RiderPhase, Serves, ServiceMode,
+    Calls, Car, CarPlan, ElevatorPhase, Lamps, Line, LineKind, Rider, RiderPhase, Serves, ServiceMode,
     Table, World,
 };
 use door::{DoorCommand, DoorState};
@@ -61,8 +61,7 @@ pub fn empty() -> World
         lines: Table::of_none(line),
         cars: Table::of_none(car),
         riders: Table::of_none(rider),
-        up_calls: 0,
-        down_calls: 0,
+        calls: Calls::NONE,
         started: false,
         ticks: 0,
         total_moves: 0,

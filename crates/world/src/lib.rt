@@ -195,15 +195,24 @@ impl Lamps {
     };
 }
 
+// Hall calls standing in both directions: bit s is the call at stop s.
+#[derive(Clone, Copy)]
+pub struct Calls {
+    pub up: u64,
+    pub down: u64,
+}
+
+impl Calls {
+    pub const NONE: Calls = Calls { up: 0, down: 0 };
+}
+
 #[derive(Clone, Copy)]
 pub struct World {
     pub stops: Stops,
     pub lines: Table<Line, 8>,
     pub cars: Table<Car, 16>,
     pub riders: Table<Rider, 128>,
-    // hall calls standing: bit s is the call at stop s
-    pub up_calls: u64,
-    pub down_calls: u64,
+    pub calls: Calls,
     pub started: bool,
     // ticks made: the number of the next tick
     pub ticks: u64,
