@@ -25,7 +25,7 @@ use Rattle.world.specs.With.{placed}
 use Rattle.laws.specs.Numbers.{plus}
 use Rattle.steps.specs.declared.JustOpened.{JustOpened}
 use Rattle.steps.proofs.Cars.{kept, stepped_same}
-use Rattle.doors_system.specs.Doors.{standing, doors_world, doors_words}
+use Rattle.doors_system.specs.Doors.{doors_world, doors_words}
 use Rattle.doors_system.proofs.Running.{Runs}
 use Rattle.hall_calls.specs.Clearing.{Clears, clear_to, clear_words_to}
 use Rattle.world.specs.declared.Calls.{Calls}
@@ -138,8 +138,8 @@ cars_kept {turn} {world} {w} {l} {l'} {i} k = ap (λ (z : World). z.cars.count) 
 
 -- the hall calls that stand, after the doors' turns
 pub calls_kept : {turn : World → ℕ → Step} {world w : World} {l l' : Log} {i : ℕ} {opened : List (Option JustOpened)} → Runs turn world l i w opened l'
-    → standing w ≡ standing world
-calls_kept {turn} {world} {w} {l} {l'} {i} k = ap standing k.left ∙ kept turn world standing (λ v j s. refl) i
+    → w.calls ≡ world.calls
+calls_kept {turn} {world} {w} {l} {l'} {i} k = ap (λ (z : World). z.calls) k.left ∙ kept turn world (λ (z : World). z.calls) (λ v j s. refl) i
 
 -- all cars' moves, then their doors: what both leave and write
 pub doored_after : (dt : Float) (world : World) {w v : World} {l l' l'' : Log} → Moves (move_of dt) world l (min world.cars.count 16) w l'

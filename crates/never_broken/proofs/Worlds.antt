@@ -20,7 +20,7 @@ use Rattle.steps.proofs.Cars.{by_turns}
 use Rattle.steps.specs.declared.JustOpened.{JustOpened}
 use Rattle.movement_system.specs.Movement.{move_of, moved}
 use Rattle.door_commands.specs.Commands.{at_stop, has_rider_traversing}
-use Rattle.doors_system.specs.Doors.{door_of, doored, standing, cars_of, doors_world}
+use Rattle.doors_system.specs.Doors.{door_of, doored, cars_of, doors_world}
 use Rattle.world.specs.declared.Calls.{Calls}
 use Rattle.hall_calls.specs.Clearing.{clears, clear_one, clear_matching, clear_to, opened_of}
 use Rattle.tick.specs.Tick.{tick_world}
@@ -170,7 +170,7 @@ doors_ran : (w : World) → Shape w → Ran w (doors_world w)
 unfolding doors_world
 doors_ran w h =
     let p : Ran w (doored w).world = doored_ran w h in
-    let f : Fewer (standing w) (clear_to (doored w).opened (standing w) (cars_of w)) = clear_to_lem (doored w).opened (standing w) (cars_of w) in
+    let f : Fewer w.calls (clear_to (doored w).opened w.calls (cars_of w)) = clear_to_lem (doored w).opened w.calls (cars_of w) in
     record {
       shape =
           record {
