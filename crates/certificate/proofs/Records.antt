@@ -173,9 +173,9 @@ module _ (w : World) (c : Call) (j : List ℕ) (h : Sums w j) (used : ℕ) where
 
   -- a record that is no tick
   plain : (cs : List Check) (v : World) → eqb (kind_of (head_word c)) 12 ≡ false → (Passed cs → outcome w c ≡ accepted used 0 v c.log → Quiet v)
-      → Gives w c j (changed c.log used (unless cs (Changes.refused w) (Changes.accepted v)))
+      → Gives w c j (changed w c.log used (unless cs Err (Ok v)))
   plain cs v t k =
-      unless_has (λ (x : Changed). Gives w c j (changed c.log used x)) cs (Changes.refused w) (Changes.accepted v) (λ r q. refuses r)
+      unless_has (λ (x : Changed). Gives w c j (changed w c.log used x)) cs Err (Ok v) (λ r q. refuses r)
       (λ q e. quiet (accepted used 0 v c.log) t (k q e) e)
 
   module _ (dt : Float) where
@@ -193,7 +193,7 @@ module _ (w : World) (c : Call) (j : List ℕ) (h : Sums w j) (used : ℕ) where
         (λ q. ticks u t (omega (arith, words_fit w dt, ltb-false (length c.log) (room_of w) q.1.1.0)))
 
   car_kept : (number : ℕ) (plan : CarPlan) → eqb (kind_of (head_word c)) 12 ≡ false
-      → Gives w c j (changed c.log used (load_car w number plan))
+      → Gives w c j (changed w c.log used (load_car w number plan))
   unfolding load_car
   car_kept number plan t =
       plain (Loads.car_checks w number plan) (with_cars w (with_item w.cars number (new_car plan) (number + 1))) t
@@ -210,7 +210,7 @@ module _ (w : World) (c : Call) (j : List ℕ) (h : Sums w j) (used : ℕ) where
       → ((n : ℕ) → Passed cs → outcome w c ≡ accepted used 0 (with_car w car d) c.log → puts_in_manual w c n ≡ false → n ≡ car
       → Fit (car_at w.cars.items car) (open_after car false j) → Fit d (open_after car false j))
       → d.move_count ≡ (car_at w.cars.items car).move_count
-      → Gives w c j (changed c.log used (unless cs (Changes.refused w) (Changes.accepted (with_car w car d))))
+      → Gives w c j (changed w c.log used (unless cs Err (Ok (with_car w car d))))
   order cs car d t known f m =
       plain cs (with_car w car d) t
       (λ q e. let low : car < 16 = leb-false 16 car (or_left (leb 16 car) (unloaded w.cars.count car) (known q)) in
@@ -220,7 +220,7 @@ module _ (w : World) (c : Call) (j : List ℕ) (h : Sums w j) (used : ℕ) where
 
 -- a record that was read
 module _ (w : World) (c : Call) (j : List ℕ) (h : Sums w j) (used : ℕ) where
-  changed_kept : (r : Record) → eqb (kind_of (head_word c)) 12 ≡ false → Says (head_word c) r → Gives w c j (changed c.log used (change_by w r))
+  changed_kept : (r : Record) → eqb (kind_of (head_word c)) 12 ≡ false → Says (head_word c) r → Gives w c j (changed w c.log used (change_by w r))
   unfolding load_line load_stop load_rider start send set_mode set_manual_speed queue_command press_hall_call push_destination set_enabled
   changed_kept (Record.Line number line) t s =
       plain w c j h used (Loads.line_checks w number line) _ t (λ q e. (h, λ n k p. k))

@@ -1,23 +1,15 @@
 -- What the state says of a record: a refusal, or the world after it. Kind D, the start.
-use Rattle.std.specs.Prelude.{Ok, Err, Bool, true, not, ◌||◌, List, [], ◌∷◌, ℕ, leb, eqb}
+use Rattle.std.specs.Prelude.{Result, Ok, Err, Bool, true, not, ◌||◌, List, [], ◌∷◌, ℕ, leb, eqb}
 use Rattle.world.specs.With.{with_plan}
 use Rattle.sound_rows.specs.Rows.{unloaded}
 use Rattle.world.specs.Refusal.{Check, check, unless}
 use Rattle.world.specs.declared.World.{World}
 use Rattle.world.specs.declared.refusal.Refusal.{Refusal}
 use Rattle.world.specs.declared.refusal.Refusal.TheVariants.{NotNow}
-use Rattle.changes.specs.declared.Answered.{Answered}
 
 -- what a record that is no tick gives
 abbrev pub Changed : Type 0
-Changed = Answered (Unit {0})
-
--- the world unchanged
-abbrev pub refused : {A : Type 0} → World → Refusal → Answered A
-refused w r = record { answer = Err r; world = w }
-
-abbrev pub accepted : World → Changed
-accepted w = record { answer = Ok tt; world = w }
+Changed = Result World Refusal
 
 -- 7: a number that is not the next unused one of a table of that size; a full table has none
 abbrev pub not_next : ℕ → ℕ → ℕ → Bool
@@ -35,4 +27,4 @@ abbrev pub with_start : World → World
 with_start w = with_plan w w.stops w.lines true
 
 unfoldable pub start : World → Changed
-start w = unless (start_checks w) (refused w) (accepted (with_start w))
+start w = unless (start_checks w) Err (Ok (with_start w))

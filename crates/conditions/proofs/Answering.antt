@@ -28,7 +28,6 @@ use Rattle.tape_records.specs.declared.Read.{Read}
 use Rattle.tape_records.specs.declared.Record.{Record}
 use Rattle.tape_records.specs.declared.Record.TheVariants.{Line, Stop, Car, Rider, Send, Mode, ManualSpeed, DoorCommand, HallCall, Destination, Enable, Start}
 use Rattle.tape.proofs.Bounds.{in_bounds}
-use Rattle.changes.specs.Changes as Changes
 use Rattle.loads.specs.Loads.{line_checks, with_line, load_line, stop_checks, with_stop, load_stop, car_checks, load_car, rider_checks, with_rider, load_rider}
 use Rattle.changes.specs.Changes.{start_checks, with_start, start}
 use Rattle.changes.specs.Changes.{Changed}
@@ -152,12 +151,11 @@ module _ (w : World) (words lent : List ℕ) where
     answers : Answers cs o.answer
     kept : f → Kept w words lent o
 
-  fine_changed : (used : ℕ) (cs : List Check) (next : World) → Fine (cs ++ []) (Takes used) (changed lent used (unless cs (Changes.refused w) (Changes.accepted next)))
+  fine_changed : (used : ℕ) (cs : List Check) (next : World) → Fine (cs ++ []) (Takes used) (changed w lent used (unless cs Err (Ok next)))
   unfolding Answers
   fine_changed used cs next = record {
-    answers = unless_answers (λ (c : Changed). (changed lent used c).answer) cs [] (Changes.refused w) (Changes.accepted next) (λ r. refl) refl;
-    kept = λ t. unless_has (λ (c : Changed). Kept w words lent (changed lent used c)) cs (Changes.refused w) (Changes.accepted next) (λ r q. refused_kept r)
-        (λ q. accepted_kept used next t);
+    answers = unless_answers (λ (c : Changed). (changed w lent used c).answer) cs [] Err (Ok next) (λ r. refl) refl;
+    kept = λ t. unless_has (λ (c : Changed). Kept w words lent (changed w lent used c)) cs Err (Ok next) (λ r q. refused_kept r) (λ q. accepted_kept used next t);
   }
 
   -- ---- what was read
@@ -176,7 +174,7 @@ module _ (w : World) (words lent : List ℕ) where
         (λ q. ticked_kept used dt (ltb-false (length lent) (room_of w) q.1.1.0) (g.0, g.1) g.2);
   }
 
-  fine_taken : (used : ℕ) (read : Record) → Fine (state_checks w read) (Fits read used) (changed lent used (change_by w read))
+  fine_taken : (used : ℕ) (read : Record) → Fine (state_checks w read) (Fits read used) (changed w lent used (change_by w read))
   unfolding load_line load_stop load_car load_rider send set_mode set_manual_speed queue_command press_hall_call push_destination set_enabled start
   fine_taken used (Line number line) = some_fine (λ g. (g.0, g.1)) (fine_changed used (line_checks w number line) (with_line w number line))
   fine_taken used (Stop number position) = some_fine (λ g. (g.0, g.1)) (fine_changed used (stop_checks w number) (with_stop w number position))

@@ -1,16 +1,15 @@
 -- What the state refuses of a record that loads, and what it does to the world: kinds 1 to 4.
-use Rattle.std.specs.Prelude.{Bool, ◌||◌, cond, List, [], ◌∷◌, ℕ, ◌+◌, leb, ltb, eqb, set, Float}
+use Rattle.std.specs.Prelude.{Ok, Err, ◌||◌, cond, List, [], ◌∷◌, ℕ, ◌+◌, leb, ltb, eqb, Float}
 use Rattle.world.specs.World.{new_car}
 use Rattle.world.specs.With.{with_plan, with_cars, with_people}
 use Rattle.sound_rows.specs.Rows.{unloaded, line_broken, rider_broken}
 use Rattle.world.specs.Refusal.{Check, check, unless}
 use Rattle.world.specs.declared.World.{World}
 use Rattle.world.specs.declared.Line.{Line}
-use Rattle.world.specs.declared.LineKind.{LineKind}
 use Rattle.world.specs.declared.CarPlan.{CarPlan}
 use Rattle.world.specs.declared.Rider.{Rider}
 use Rattle.world.specs.declared.refusal.Refusal.TheVariants.{NotNow, NotNext, NotLoaded}
-use Rattle.changes.specs.Changes.{Changed, refused, accepted, not_next}
+use Rattle.changes.specs.Changes.{Changed, not_next}
 use Rattle.world.specs.Tables.{with_item}
 
 -- 1 line
@@ -25,7 +24,7 @@ abbrev pub with_line : World → ℕ → Line → World
 with_line w number row = with_plan w w.stops (with_item w.lines number row (number + 1)) w.started
 
 unfoldable pub load_line : World → ℕ → Line → Changed
-load_line w number row = unless (line_checks w number row) (refused w) (accepted (with_line w number row))
+load_line w number row = unless (line_checks w number row) Err (Ok (with_line w number row))
 
 -- 2 stop
 abbrev pub stop_checks : World → ℕ → List Check
@@ -38,7 +37,7 @@ abbrev pub with_stop : World → ℕ → Float → World
 with_stop w number position = with_plan w (with_item w.stops number position (number + 1)) w.lines w.started
 
 unfoldable pub load_stop : World → ℕ → Float → Changed
-load_stop w number position = unless (stop_checks w number) (refused w) (accepted (with_stop w number position))
+load_stop w number position = unless (stop_checks w number) Err (Ok (with_stop w number position))
 
 -- 3 car
 abbrev pub car_checks : World → ℕ → CarPlan → List Check
@@ -49,7 +48,7 @@ car_checks w number plan =
     ∷ []
 
 unfoldable pub load_car : World → ℕ → CarPlan → Changed
-load_car w number plan = unless (car_checks w number plan) (refused w) (accepted (with_cars w (with_item w.cars number (new_car plan) (number + 1))))
+load_car w number plan = unless (car_checks w number plan) Err (Ok (with_cars w (with_item w.cars number (new_car plan) (number + 1))))
 
 -- the count of riders once this number is loaded: one more where it is new
 abbrev pub count_with : ℕ → ℕ → ℕ
@@ -67,4 +66,4 @@ with_rider w number rider =
     with_people w (with_item w.riders number rider (count_with w.riders.count number)) w.calls
 
 unfoldable pub load_rider : World → ℕ → Rider → Changed
-load_rider w number rider = unless (rider_checks w number rider) (refused w) (accepted (with_rider w number rider))
+load_rider w number rider = unless (rider_checks w number rider) Err (Ok (with_rider w number rider))

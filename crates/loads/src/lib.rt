@@ -1,32 +1,40 @@
-// Kinds 1 to 4: what is loaded. What the state refuses, and the world after the record.
-// Stays: each check returns by itself. With ? a kind's checks would be a function apart, as a refusal comes with the world.
+// Kinds 1 to 4: what is loaded. What the state refuses, or the world after the record.
 #![tactic(auto)]
 
-ghost use Rattle.std.specs.Prelude.{◌≡◌, ◌+◌};
+ghost use Rattle.std.specs.Prelude.{◌≡◌, ◌+◌, ◌∷◌, [], Ok, Err};
+ghost use Rattle.world.specs.Refusal.{check, unless};
+ghost use Rattle.world.specs.Tables.{with_item};
+ghost use Rattle.world.specs.declared.refusal.Refusal.TheVariants.{NotNext};
+ghost use Rattle.changes.specs.Changes.{not_next};
 ghost use Rattle.loads.specs.Loads as Loads;
 
-use changes::{Changed, accepted, refused};
+use changes::Changed;
 use sound_rows::{line_broken, rider_broken, unloaded};
+use tape_records::refuse_if;
 use world::empty::new_car;
 use world::refusal::Refusal;
-use world::{CarPlan, Line, LineKind, Rider, World};
+use world::{CarPlan, Line, Rider, Table, World};
+
+// A table with one more item, that of a record's own number; refused where this is not the next unused one, of which a full table has none.
+fn with_next<T: Copy, const N: usize>(
+    table: Table<T, N>,
+    number: u8,
+    item: T,
+) -> Result<Table<T, N>, Refusal>
+    ensures { result ≡ unless (check NotNext (not_next N table.count number) ∷ []) Err (Ok (with_item table number item (number + 1))) }
+{
+    refuse_if(number as usize != table.count, Refusal::NotNext)?;
+    table.pushed(item).ok_or(Refusal::NotNext)
+}
 
 // Kind 2.
 #[tactic(auto, unfolding(crate::specs::Loads::load_stop))]
 pub fn load_stop(world: World, number: u8, position: f64) -> Changed
     ensures { result ≡ Loads.load_stop world number position }
 {
-    if world.started {
-        return refused(world, Refusal::NotNow);
-    }
-    let at = number as usize;
-    if (64 <= at) | (at != world.stops.count) {
-        return refused(world, Refusal::NotNext);
-    }
-    let mut next = world;
-    next.stops.items[at] = position;
-    next.stops.count = at + 1;
-    accepted(next)
+    refuse_if(world.started, Refusal::NotNow)?;
+    let stops = with_next(world.stops, number, position)?;
+    Ok(World { stops, ..world })
 }
 
 // The count of riders once this number is loaded: one more where it is new.
@@ -39,20 +47,16 @@ fn count_with(count: usize, number: u8) -> usize
 
 // Kind 4.
 #[tactic(auto, unfolding(crate::specs::Loads::load_rider))]
-pub fn load_rider(world: World, number: u8, rider: Rider) -> Changed
+pub fn load_rider(mut world: World, number: u8, rider: Rider) -> Changed
     ensures { result ≡ Loads.load_rider world number rider }
 {
     let at = number as usize;
-    if (128 <= at) | (world.riders.count < at) {
-        return refused(world, Refusal::NotNext);
-    }
-    if rider_broken(world.stops.count, world.cars.count, rider) {
-        return refused(world, Refusal::NotLoaded);
-    }
-    let mut next = world;
-    next.riders.items[at] = rider;
-    next.riders.count = count_with(world.riders.count, number);
-    accepted(next)
+    refuse_if((128 <= at) | (world.riders.count < at), Refusal::NotNext)?;
+    let broken = rider_broken(world.stops.count, world.cars.count, rider);
+    refuse_if(broken, Refusal::NotLoaded)?;
+    world.riders.items[at] = rider;
+    world.riders.count = count_with(world.riders.count, number);
+    Ok(world)
 }
 
 // Kind 3.
@@ -60,40 +64,19 @@ pub fn load_rider(world: World, number: u8, rider: Rider) -> Changed
 pub fn load_car(world: World, number: u8, plan: CarPlan) -> Changed
     ensures { result ≡ Loads.load_car world number plan }
 {
-    if world.started {
-        return refused(world, Refusal::NotNow);
-    }
-    let at = number as usize;
-    if (16 <= at) | (at != world.cars.count) {
-        return refused(world, Refusal::NotNext);
-    }
-    if unloaded(world.lines.count, plan.line) {
-        return refused(world, Refusal::NotLoaded);
-    }
-    let mut next = world;
-    next.cars.items[at] = new_car(plan);
-    next.cars.count = at + 1;
-    accepted(next)
+    refuse_if(world.started, Refusal::NotNow)?;
+    let cars = with_next(world.cars, number, new_car(plan))?;
+    refuse_if(unloaded(world.lines.count, plan.line), Refusal::NotLoaded)?;
+    Ok(World { cars, ..world })
 }
 
 // Kind 1.
-// Stays: beside load_car: each names its own table, count and row.
 #[tactic(auto, unfolding(crate::specs::Loads::load_line))]
 pub fn load_line(world: World, number: u8, line: Line) -> Changed
     ensures { result ≡ Loads.load_line world number line }
 {
-    if world.started {
-        return refused(world, Refusal::NotNow);
-    }
-    let at = number as usize;
-    if (8 <= at) | (at != world.lines.count) {
-        return refused(world, Refusal::NotNext);
-    }
-    if line_broken(world.stops.count, line) {
-        return refused(world, Refusal::NotLoaded);
-    }
-    let mut next = world;
-    next.lines.items[at] = line;
-    next.lines.count = at + 1;
-    accepted(next)
+    refuse_if(world.started, Refusal::NotNow)?;
+    let lines = with_next(world.lines, number, line)?;
+    refuse_if(line_broken(world.stops.count, line), Refusal::NotLoaded)?;
+    Ok(World { lines, ..world })
 }

@@ -1,5 +1,5 @@
 -- What the state refuses of a mode, a manual speed or an enable, and what each does to the world: kinds 6, 7 and B.
-use Rattle.std.specs.Prelude.{Bool, not, List, [], ◌∷◌, ℕ, Float}
+use Rattle.std.specs.Prelude.{Ok, Err, Bool, not, List, [], ◌∷◌, ℕ, Float}
 use Rattle.world.specs.World.{car_at}
 use Rattle.world.specs.With.{with_car, with_orders}
 use Rattle.world.specs.declared.World.{World}
@@ -8,7 +8,7 @@ use Rattle.world.specs.declared.ServiceMode.{ServiceMode}
 use Rattle.std.specs.declared.option.Option.{Option}
 use Rattle.world.specs.declared.refusal.Refusal.TheVariants.{NotNow, NotLoaded}
 use Rattle.world.specs.Refusal.{Check, check, unless}
-use Rattle.changes.specs.Changes.{Changed, refused, accepted, no_such_car}
+use Rattle.changes.specs.Changes.{Changed, no_such_car}
 
 -- the checks of an order to a car that needs nothing but the car: kinds 6, 7 and B
 abbrev pub order_checks : World → ℕ → List Check
@@ -25,7 +25,7 @@ in_mode c mode =
 
 unfoldable pub set_mode : World → ℕ → ServiceMode → Changed
 set_mode w car mode =
-    unless (order_checks w car) (refused w) (accepted (with_car w car (in_mode (car_at w.cars.items car) mode)))
+    unless (order_checks w car) Err (Ok (with_car w car (in_mode (car_at w.cars.items car) mode)))
 
 -- 7 manual speed
 abbrev pub at_speed : Car → Option Float → Car
@@ -35,7 +35,7 @@ at_speed c speed =
 
 unfoldable pub set_manual_speed : World → ℕ → Option Float → Changed
 set_manual_speed w car speed =
-    unless (order_checks w car) (refused w) (accepted (with_car w car (at_speed (car_at w.cars.items car) speed)))
+    unless (order_checks w car) Err (Ok (with_car w car (at_speed (car_at w.cars.items car) speed)))
 
 -- B enable, disable
 abbrev pub marked : Car → Bool → Car
@@ -45,4 +45,4 @@ marked c enabled =
 
 unfoldable pub set_enabled : World → ℕ → Bool → Changed
 set_enabled w car enabled =
-    unless (order_checks w car) (refused w) (accepted (with_car w car (marked (car_at w.cars.items car) enabled)))
+    unless (order_checks w car) Err (Ok (with_car w car (marked (car_at w.cars.items car) enabled)))

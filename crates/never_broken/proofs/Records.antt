@@ -32,7 +32,6 @@ use Rattle.tape.specs.Facts.{InBounds, Facts}
 use Rattle.tape.proofs.Bounds.{in_bounds}
 use Rattle.tape_records.specs.declared.Read.{Read}
 use Rattle.tape_records.specs.declared.Record.{Record}
-use Rattle.changes.specs.Changes as Changes
 use Rattle.loads.specs.Loads.{count_with, line_checks, stop_checks, car_checks, rider_checks, load_line, load_stop, load_car, load_rider}
 use Rattle.changes.specs.Changes.{not_next, no_such_car, start_checks, start}
 use Rattle.changes.specs.Changes.{Changed}
@@ -92,11 +91,11 @@ append_in {stops} {count} {queue} stop few new h = record {
 
 module _ (w : World) (h : Sound w) (log : List ℕ) (used : ℕ) where
   abbrev Keeps : Changed → Type 0
-  Keeps c = Good (changed log used c)
+  Keeps c = Good (changed w log used c)
 
-  unless_keeps : (cs : List Check) (next : World) → all positive cs ≡ true → (Passed cs → Sound next) → Keeps (unless cs (Changes.refused w) (Changes.accepted next))
+  unless_keeps : (cs : List Check) (next : World) → all positive cs ≡ true → (Passed cs → Sound next) → Keeps (unless cs Err (Ok next))
   unless_keeps cs next e f =
-      unless_has Keeps cs (Changes.refused w) (Changes.accepted next) (λ r q. refused_good w log r h (first_of positive cs e q))
+      unless_has Keeps cs Err (Ok next) (λ r q. refused_good w log r h (first_of positive cs e q))
       (λ q. record { world = f q; answer = omega arith })
 
   -- ---- loading
@@ -301,7 +300,7 @@ module _ (w : World) (h : Sound w) (log : List ℕ) (used : ℕ) where
       unless_has Good (checks_of_tick w log) (refused w log) (ticked w log used dt) (λ r q. refused_good w log r h (first_of positive (checks_of_tick w log) refl q))
       (λ q. record { world = tick_sound w dt (leb-false (2 ^ 28) w.ticks q.1.0) h; answer = omega arith })
 
-  changed_good : (read : Record) → Good (changed log used (change_by w read))
+  changed_good : (read : Record) → Good (changed w log used (change_by w read))
   changed_good (Record.Line number line) = line_keeps number line
   changed_good (Record.Stop number position) = stop_keeps number position
   changed_good (Record.Car number plan) = car_keeps number plan

@@ -1,5 +1,5 @@
 -- What the state refuses of a send, and what it does to the world: kind 5.
-use Rattle.std.specs.Prelude.{Bool, true, false, not, ◌||◌, cond, List, [], ◌∷◌, ℕ}
+use Rattle.std.specs.Prelude.{Ok, Err, Bool, true, false, not, ◌||◌, cond, List, [], ◌∷◌, ℕ}
 use Rattle.world.specs.World.{car_at}
 use Rattle.world.specs.With.{with_car, with_orders}
 use Rattle.sound_rows.specs.Rows.{unloaded}
@@ -10,7 +10,7 @@ use Rattle.world.specs.declared.ElevatorPhase.TheVariants.{Idle, MovingToStop, R
 use Rattle.std.specs.declared.option.Option.TheVariants.{Some}
 use Rattle.world.specs.declared.refusal.Refusal.TheVariants.{NotNow, NotLoaded, CannotGo}
 use Rattle.world.specs.Refusal.{Check, check, unless}
-use Rattle.changes.specs.Changes.{Changed, refused, accepted, no_such_car}
+use Rattle.changes.specs.Changes.{Changed, no_such_car}
 
 -- whether a car may be sent: Idle or Stopped
 abbrev pub can_go : ElevatorPhase → Bool
@@ -37,4 +37,4 @@ send_checks w car stop =
     ∷ []
 
 unfoldable pub send : World → ℕ → ℕ → Bool → Changed
-send w car stop reposition = unless (send_checks w car stop) (refused w) (accepted (with_car w car (sent (car_at w.cars.items car) stop reposition)))
+send w car stop reposition = unless (send_checks w car stop) Err (Ok (with_car w car (sent (car_at w.cars.items car) stop reposition)))

@@ -4,8 +4,9 @@
 ghost use Rattle.std.specs.Prelude.{◌≡◌};
 ghost use Rattle.orders.specs.Orders as Orders;
 
-use changes::{Changed, ordered, row_of};
+use changes::{Changed, ordered};
 use sound_rows::unloaded;
+use tape_records::refuse_if;
 use world::refusal::Refusal;
 use world::with::with_orders;
 use world::{Car, ElevatorPhase, World};
@@ -30,16 +31,14 @@ fn sent(car: Car, stop: u8, reposition: bool) -> Car
 }
 
 // Kind 5.
-#[tactic(auto, unfolding(crate::specs::Orders::send, changes::specs::Parts::ordered, changes::specs::Parts::row_of))]
-pub fn send(world: World, car: u8, stop: u8, reposition: bool) -> Changed
+#[tactic(auto, unfolding(crate::specs::Orders::send, changes::specs::Parts::ordered))]
+pub fn send(mut world: World, car: u8, stop: u8, reposition: bool) -> Changed
     ensures { result ≡ Orders.send world car stop reposition }
 {
-    let row = row_of(world, car);
     let unnamed = unloaded(world.stops.count, stop);
-    let phase = row.phase;
-    if !row.enabled | !can_go(phase) {
-        return ordered(world, car, unnamed, Some(Refusal::CannotGo), row);
-    }
-    let next = sent(row, stop, reposition);
-    ordered(world, car, unnamed, None, next)
+    let at = ordered(&world, car, unnamed)?;
+    let row = world.cars.items[at];
+    refuse_if(!row.enabled | !can_go(row.phase), Refusal::CannotGo)?;
+    world.cars.items[at] = sent(row, stop, reposition);
+    Ok(world)
 }

@@ -17,7 +17,7 @@ use Rattle.log_writes.proofs.Writing.{wrote_length, wrote_fits}
 use Rattle.log_writes.proofs.Telling.{told_none, told_also}
 use Rattle.record.specs.Record as Record
 use Rattle.record.specs.Record.{Outcome, record_of, is_accepted, used_of}
-use Rattle.record.specs.Record.{Recorded}
+use Rattle.record.specs.declared.Recorded.{Recorded}
 use Rattle.conditions.specs.Conditions.{Kept, FirstCondition}
 use Rattle.conditions.proofs.Answering.{first_condition}
 use Rattle.laws.specs.Numbers.{bit}

@@ -1,5 +1,5 @@
 -- What a call gives, case by case. Assumes nothing.
-use Rattle.std.proofs.Common.{◌≡◌, ℕ, ◌≤◌, Bool, true, false, cond, List, [], ◌∷◌, length, sym, refl, ap, ◌∙◌, arith, ltb-false}
+use Rattle.std.proofs.Common.{◌≡◌, ℕ, ◌≤◌, Bool, true, false, cond, List, [], ◌∷◌, length, refl, ap, ◌∙◌, arith, ltb-false}
 use lib.Ieee.{Float}
 use Rattle.sound.specs.Sound.{broken}
 use Rattle.world.specs.Refusal.{Check, unless}
@@ -9,24 +9,21 @@ use Rattle.world.specs.declared.refusal.Refusal.{Refusal}
 use Rattle.world.specs.declared.refusal.Refusal.TheVariants.{BrokenWorld}
 use Rattle.tape.specs.Tape.{decoded}
 use Rattle.tape_records.specs.declared.Read.{Read}
-use Rattle.tape_records.specs.declared.Read.TheVariants as Read
-use Rattle.tape_records.specs.declared.Record.{Record}
-use Rattle.changes.specs.Changes as Changes
-use Rattle.changes.specs.Changes.{Changed}
 use Rattle.std.specs.Prelude.{Result, Ok, Err}
-use Rattle.record_kinds.specs.Kinds.{change_by, tick_taken}
+use Rattle.record_kinds.specs.Kinds.{tick_taken}
 use Rattle.log_writes.specs.Log.{Wrote}
 use Rattle.tick.specs.Tick.{tick_world, tick_words}
 use Rattle.tick.specs.Room.{room_of, WordsFit}
 use Rattle.tick.proofs.Proved.{words_fit}
-use Rattle.record.specs.Record.{Recorded, Outcome, Gives, refused, answer_of, checks_of_tick, ticked, tick_once, made_of, read_by, record_of}
+use Rattle.record.specs.declared.Recorded.{Recorded}
+use Rattle.record.specs.Record.{Outcome, Gives, refused, checks_of_tick, ticked, tick_once, made_of, read_by, record_of}
 
 -- a refusal: the answer, and the world as it was
 abbrev pub Says : Recorded → World → Refusal → Type 0
-Says r w f = r ≡ Changes.refused w f
+Says r w f = (r.answer ≡ Err f) × (r.world ≡ w)
 
 refusal_gives : {r : Recorded} {w : World} {log : List ℕ} {f : Refusal} → Says r w f → Gives r log (refused w log f)
-refusal_gives h = record { answer = ap (λ (z : Recorded). z.answer) h; world = ap (λ (z : Recorded). z.world) h; log = refl }
+refusal_gives h = record { answer = h.0; world = h.1; log = refl }
 
 -- what is refused is not taken
 not_both : (r : Refusal) → ◌≡◌ {A = Result (Unit {0}) Refusal} (Err r) (Ok tt) → ⊥
@@ -68,10 +65,6 @@ module _ (w : World) (log : List ℕ) where
   pub is_made : {r : Recorded} {left : List ℕ} {d : Result Read Refusal} {read : Read} → d ≡ Ok read → Gives r left (made_of w log read)
       → Gives r left (read_by w log d)
   is_made d h = rw d h
-
-  pub is_changed : {r : Recorded} (found : Record) (used : ℕ) {c : Changed} → c ≡ change_by w found
-      → (r.answer ≡ answer_of c.answer used) × (r.world ≡ c.world) → Gives r log (made_of w log (Read.Accepted found used))
-  is_changed found used e h = rw (← e) (record { answer = h.0; world = h.1; log = refl })
 
   pub tick_refused : {r : Recorded} (used : ℕ) (dt : Float) {f : Refusal} → tick_says ≡ Err f → Says r w f → Gives r log (made_of w log (Read.Tick dt used))
   tick_refused used dt {f = f} t h = rw (tick_said used dt (Err f) t) (refusal_gives h)

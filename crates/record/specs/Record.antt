@@ -8,21 +8,16 @@ use Rattle.world.specs.declared.refusal.Refusal.{Refusal}
 use Rattle.world.specs.declared.refusal.Refusal.TheVariants.{BrokenWorld}
 use Rattle.tape.specs.Tape.{decoded}
 use Rattle.tape_records.specs.declared.Read.{Read}
-use Rattle.tape_records.specs.declared.Read.TheVariants as Read
 use Rattle.changes.specs.Changes.{Changed}
 use Rattle.record_kinds.specs.Kinds.{change_by, tick_checks}
 use Rattle.tick.specs.Tick.{tick_world, tick_words}
-use Rattle.changes.specs.declared.Answered.{Answered}
 use Rattle.record.specs.declared.Accepted.{Accepted}
+use Rattle.record.specs.declared.Recorded.{Recorded}
 
 -- ---- the answer: the certificate's "an accepted record or one numbered refusal"; refusal_number of `world` gives the numbers
 
 abbrev pub Answer : Type 0
 Answer = Result Accepted Refusal
-
--- what the code of a call gives
-abbrev pub Recorded : Type 0
-Recorded = Answered Accepted
 
 abbrev pub is_accepted : Answer → Bool
 is_accepted (Ok a) = true
@@ -60,12 +55,9 @@ pub record Gives (r : Recorded) (left : List ℕ) (o : Outcome) : Type 0 where
 
 -- ---- every record but the tick: no word is written, the log is as it was
 
-abbrev pub answer_of : Result (Unit {0}) Refusal → ℕ → Answer
-answer_of (Ok t) used = Ok (record { used = used; written = 0 })
-answer_of (Err r) used = Err r
-
-abbrev pub changed : List ℕ → ℕ → Changed → Outcome
-changed log used c = record { answer = answer_of c.answer used; world = c.world; log = log }
+abbrev pub changed : World → List ℕ → ℕ → Changed → Outcome
+changed w log used (Ok next) = accepted used 0 next log
+changed w log used (Err r) = refused w log r
 
 -- ---- C tick: "A tick writes its words from the log's start; later words stay."
 
@@ -83,7 +75,7 @@ tick_once w log used dt = unless (checks_of_tick w log) (refused w log) (ticked 
 
 -- the record
 abbrev pub made_of : World → List ℕ → Read → Outcome
-made_of w log (Read.Accepted read used) = changed log used (change_by w read)
+made_of w log (Read.Accepted read used) = changed w log used (change_by w read)
 made_of w log (Read.Tick dt used) = tick_once w log used dt
 
 -- refusals 1 to 4, or the record

@@ -1,12 +1,11 @@
 // The record call: one record of a tape, checked in the paper's order and done. What knows no loop is in record_kinds.
 #![tactic(auto)]
 
-ghost use Rattle.std.specs.Prelude.{◌≡◌};
+ghost use Rattle.std.specs.Prelude.{◌≡◌, ℕ, List, Err};
 ghost use Rattle.record.specs.Record as Call;
 ghost use Rattle.record_kinds.specs.Kinds.{change_by};
 
 use arrival::{asks_work, work_of};
-use changes::{Answered, refused};
 use door_commands::has_rider_traversing;
 use doors_system::{door_turn, has_turn};
 use hall_calls::clear_hall_calls;
@@ -36,17 +35,33 @@ pub struct Accepted {
 pub type Answer = Result<Accepted, Refusal>;
 
 // The answer, and the world after the call: on a refusal the one that was given.
-pub type Recorded = Answered<Accepted>;
+#[derive(Clone, Copy)]
+pub struct Recorded {
+    pub answer: Answer,
+    pub world: World,
+}
+
+// A refusal: the world is the one that was given.
+fn refused(world: World, refusal: Refusal) -> Recorded
+    ensures { (result.answer ≡ Err refusal) × (result.world ≡ world) }
+{
+    Recorded {
+        answer: Err(refusal),
+        world,
+    }
+}
 
 // What a record gives that writes no word. The hint keeps its worlds out of the tick, where they would be cleared: 100 ns a tick.
 #[inline(never)]
 fn answered(world: World, found: Record, used: usize) -> Recorded
-    ensures { (result.answer ≡ Call.answer_of (change_by world found).answer used) × (result.world ≡ (change_by world found).world) }
+    ensures { (log : List ℕ) → Call.Gives result log (Call.changed world log used (change_by world found)) }
 {
-    let changed = change(world, found);
-    Answered {
-        answer: changed.answer.map(|()| Accepted { used, written: 0 }),
-        world: changed.world,
+    match change(world, found) {
+        Ok(next) => Recorded {
+            answer: Ok(Accepted { used, written: 0 }),
+            world: next,
+        },
+        Err(refusal) => refused(world, refusal),
     }
 }
 
@@ -117,7 +132,7 @@ pub fn record(world: World, words: &[u32], log: &mut [u32]) -> Recorded
     }
     w.calls = clear_hall_calls(&mut log, &just_opened[..cars], w.calls);
     w.ticks = w.ticks.wrapping_add(1);
-    Answered {
+    Recorded {
         answer: Ok(Accepted {
             used: words_used,
             written: log.at,

@@ -6,7 +6,7 @@ ghost use Rattle.record_kinds.specs.Kinds as Kinds;
 ghost use Rattle.record_kinds.specs.PaperRoom.{PaperRoom};
 
 use changes::Changed;
-use tape_records::Record;
+use tape_records::{Record, refuse_if};
 use world::World;
 use world::refusal::Refusal;
 
@@ -45,16 +45,10 @@ pub fn take_tick(
 ) -> Result<(), Refusal>
     ensures { result ≡ Kinds.tick_taken started ticks cars stops room }
 {
-    if !started {
-        return Err(Refusal::NotNow);
-    }
-    if 0x1000_0000 <= ticks {
-        return Err(Refusal::LastTick);
-    }
-    if room < cars.min(16) * (stops.min(64) + 14) + 1 {
-        return Err(Refusal::LogShort);
-    }
-    Ok(())
+    refuse_if(!started, Refusal::NotNow)?;
+    refuse_if(0x1000_0000 <= ticks, Refusal::LastTick)?;
+    let need = cars.min(16) * (stops.min(64) + 14) + 1;
+    refuse_if(room < need, Refusal::LogShort)
 }
 
 // Carries the claim that the room which a tick asks for is the paper's number.

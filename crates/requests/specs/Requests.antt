@@ -1,5 +1,5 @@
 -- What the state refuses of a door command, a hall call or a destination, and what each does to the world: kinds 8, 9 and A.
-use Rattle.std.specs.Prelude.{Bool, not, ◌||◌, cond, List, [], ◌∷◌, ℕ, ◌+◌, leb, set}
+use Rattle.std.specs.Prelude.{Ok, Err, Bool, not, ◌||◌, cond, List, [], ◌∷◌, ℕ, ◌+◌, leb}
 use Rattle.door.specs.declared.DoorCommand.{DoorCommand}
 use Rattle.world.specs.World.{car_at}
 use Rattle.world.specs.Tables.{with_item}
@@ -10,7 +10,7 @@ use Rattle.world.specs.declared.World.{World}
 use Rattle.world.specs.declared.Car.{Car}
 use Rattle.world.specs.declared.refusal.Refusal.TheVariants.{NotNow, NotLoaded, QueueFull}
 use Rattle.world.specs.Refusal.{Check, check, unless}
-use Rattle.changes.specs.Changes.{Changed, refused, accepted, no_such_car}
+use Rattle.changes.specs.Changes.{Changed, no_such_car}
 
 -- 8 door command, appended to the car's door queue
 abbrev pub commanded : Car → DoorCommand → Car
@@ -26,7 +26,7 @@ command_checks w car =
     ∷ []
 
 unfoldable pub queue_command : World → ℕ → DoorCommand → Changed
-queue_command w car command = unless (command_checks w car) (refused w) (accepted (with_car w car (commanded (car_at w.cars.items car) command)))
+queue_command w car command = unless (command_checks w car) Err (Ok (with_car w car (commanded (car_at w.cars.items car) command)))
 
 -- 9 hall call
 abbrev pub call_checks : World → ℕ → List Check
@@ -41,7 +41,7 @@ with_call w stop down =
     (record { up = cond down w.calls.up (pressed w.calls.up stop); down = cond down (pressed w.calls.down stop) w.calls.down })
 
 unfoldable pub press_hall_call : World → ℕ → Bool → Changed
-press_hall_call w stop down = unless (call_checks w stop) (refused w) (accepted (with_call w stop down))
+press_hall_call w stop down = unless (call_checks w stop) Err (Ok (with_call w stop down))
 
 -- A destination, appended to the car's destination queue
 abbrev pub destined : Car → ℕ → Car
@@ -57,4 +57,4 @@ destination_checks w car stop =
     ∷ []
 
 unfoldable pub push_destination : World → ℕ → ℕ → Changed
-push_destination w car stop = unless (destination_checks w car stop) (refused w) (accepted (with_car w car (destined (car_at w.cars.items car) stop)))
+push_destination w car stop = unless (destination_checks w car stop) Err (Ok (with_car w car (destined (car_at w.cars.items car) stop)))

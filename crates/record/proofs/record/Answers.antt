@@ -1,6 +1,5 @@
 -- `record::record` meets its contract: the refusals, what was read, and a tick by the two loops. Assumes nothing.
-use Rattle.std.proofs.Common.{◌≡◌, ℕ, ◌+◌, ◌≤◌, min, Bool, false, ◌||◌, List, sym, refl, ap, ◌∙◌, inl, inr, add-one, arith, rules}
-use lib.Ieee.{Float}
+use Rattle.std.proofs.Common.{◌≡◌, ℕ, ◌+◌, ◌≤◌, min, false, List, sym, refl, ap, ◌∙◌, inl, inr, arith, rules}
 use Rattle.log_writes.proofs.Telling.{told_none, told_also}
 use Rattle.log_writes.specs.Told.{Log}
 use Rattle.sound.specs.Sound.{broken}
@@ -14,7 +13,7 @@ use Rattle.laws.specs.Numbers.{plus}
 use Rattle.doors_system.proofs.Running.{Runs, same, more, turn_on_lem, door_of_lem, passed, ended}
 use Rattle.movement_system.proofs.Moving.{Moves, cars_kept, calls_kept, doored_after, looked, comes_in, goes_on_lem, stays}
 use Rattle.tick.specs.Tick.{ticked, tick_world, tick_words}
-use Rattle.record.proofs.Giving.{is_broken, is_whole, is_refused, is_made, is_changed, tick_refused, tick_taken_lem}
+use Rattle.record.proofs.Giving.{is_broken, is_whole, is_refused, is_made, tick_refused, tick_taken_lem}
 use Rattle.record.proofs.record.Goals as goal
 use Rattle.record.proofs.record.Goals.{Else-broken, then-is_trip+then-result, then-is_trip+else-result, else-is_trip, then-asks_work, else-asks_work, then-has_turn, else-has_turn, then-car-eq0, else-car-eq0}
 
@@ -44,7 +43,7 @@ pub returns-in-Ok-Accepted : goal.returns-in-Ok-Accepted
 returns-in-Ok-Accepted c =
     let w = c.args.world in
     is_whole w _ _ (whole (goal.at.returns-in-Ok-Accepted c).Else-broken) c.decode.ensures
-    (is_made w _ (rw c.in-Ok-Accepted.field-0-is at c.in-Ok-Accepted.is) (is_changed w _ _ _ refl c.answered.ensures))
+    (is_made w _ (rw c.in-Ok-Accepted.field-0-is at c.in-Ok-Accepted.is) (c.answered.ensures _))
 
 pub returns-in-Err-taken : goal.returns-in-Err-taken
 returns-in-Err-taken c =
@@ -131,7 +130,7 @@ returns c =
     let k = moves_at s.invariant.1 (sym e) in
     let f : t.i ≡ min s.w.cars.count 16 = omega (arith, n, c.loop-i-2-test.false, t.invariant.0, cars_kept k) in
     let d : c.min-cars.result ≡ min s.w.cars.count 16 = omega (arith, n, cars_kept k) in
-    let r = ended (runs_at t.invariant.1 f) d (calls_kept t.invariant.1) c.clear_hall_calls-calls.ensures in
+    let r = ended (runs_at t.invariant.1 f) d (calls_kept t.invariant.1) c.clear_hall_calls-w.ensures in
     let x = doored_after c.in-Ok-Tick.dt w k r.0 r.1 in
     let all = told_also c.emit.ensures x.1 in
     is_whole w _ _ (whole (goal.at.returns c).Else-broken) c.decode.ensures
