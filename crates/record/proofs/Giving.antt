@@ -9,7 +9,8 @@ use Rattle.world.specs.declared.refusal.Refusal.{Refusal}
 use Rattle.world.specs.declared.refusal.Refusal.TheVariants.{BrokenWorld}
 use Rattle.tape.specs.Tape.{decoded}
 use Rattle.tape_records.specs.declared.Read.{Read}
-use Rattle.tape_records.specs.declared.Read.TheVariants as Read
+use Rattle.tape_records.specs.declared.Found.{Found}
+use Rattle.tape_records.specs.declared.Found.TheVariants.{Change, Tick}
 use Rattle.tape_records.specs.declared.Record.{Record}
 use Rattle.changes.specs.Changes as Changes
 use Rattle.changes.specs.Changes.{Changed}
@@ -65,19 +66,19 @@ module _ (w : World) (log : List ℕ) where
   pub is_refused : {r : Recorded} {d : Result Read Refusal} {f : Refusal} → d ≡ Err f → Says r w f → Gives r log (read_by w log d)
   is_refused d h = rw d (refusal_gives h)
 
-  pub is_made : {r : Recorded} {left : List ℕ} {d : Result Read Refusal} {read : Read} → d ≡ Ok read → Gives r left (made_of w log read)
-      → Gives r left (read_by w log d)
-  is_made d h = rw d h
+  pub is_made : {r : Recorded} {left : List ℕ} {d : Result Read Refusal} {read : Read} {found : Found} → d ≡ Ok read → read.found ≡ found
+      → Gives r left (made_of w log read.used found) → Gives r left (read_by w log d)
+  is_made d f h = rw (d, f) h
 
   pub is_changed : {r : Recorded} (found : Record) (used : ℕ) {c : Changed} → c ≡ change_by w found
-      → (r.answer ≡ answer_of c.answer used) × (r.world ≡ c.world) → Gives r log (made_of w log (Read.Accepted found used))
+      → (r.answer ≡ answer_of c.answer used) × (r.world ≡ c.world) → Gives r log (made_of w log used (Change found))
   is_changed found used e h = rw (← e) (record { answer = h.0; world = h.1; log = refl })
 
-  pub tick_refused : {r : Recorded} (used : ℕ) (dt : Float) {f : Refusal} → tick_says ≡ Err f → Says r w f → Gives r log (made_of w log (Read.Tick dt used))
+  pub tick_refused : {r : Recorded} (used : ℕ) (dt : Float) {f : Refusal} → tick_says ≡ Err f → Says r w f → Gives r log (made_of w log used (Tick dt))
   tick_refused used dt {f = f} t h = rw (tick_said used dt (Err f) t) (refusal_gives h)
 
   pub tick_taken_lem : {r : Recorded} {left : List ℕ} {at : ℕ} (used : ℕ) (dt : Float) → tick_says ≡ Ok tt → r.answer ≡ Ok (record { used = used; written = at }) → r.world ≡ tick_world w dt → Wrote log 0 (tick_words w dt) left at
-      → Gives r left (made_of w log (Read.Tick dt used))
+      → Gives r left (made_of w log used (Tick dt))
   unfolding WordsFit
   tick_taken_lem {at = at} used dt t n m h =
       let fits : length (tick_words w dt) ≤ room_of w = words_fit w dt in
