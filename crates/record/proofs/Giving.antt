@@ -1,5 +1,5 @@
 -- What a call gives, case by case. Assumes nothing.
-use Rattle.std.proofs.Common.{◌≡◌, ℕ, ◌≤◌, Bool, true, false, cond, List, [], ◌∷◌, length, sym, refl, ap, ◌∙◌, arith, ltb-false}
+use Rattle.std.proofs.Common.{◌≡◌, ℕ, ◌≤◌, Bool, true, false, cond, List, [], ◌∷◌, length, refl, ap, ◌∙◌, arith, ltb-false}
 use lib.Ieee.{Float}
 use Rattle.sound.specs.Sound.{broken}
 use Rattle.world.specs.Refusal.{Check, unless}

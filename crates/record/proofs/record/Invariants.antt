@@ -1,5 +1,5 @@
 -- What the loops keep.
-use Rattle.std.proofs.Common.{◌≡◌, ◌≤◌}
+use Rattle.std.proofs.Common.{◌≤◌}
 use Rattle.doors_system.specs.Doors.{door_of}
 use Rattle.doors_system.proofs.Running.{Runs}
 use Rattle.movement_system.specs.Movement.{move_of}
