@@ -19,14 +19,14 @@ use Rattle.world.specs.declared.ServiceMode.{ServiceMode}
 use Rattle.world.specs.declared.refusal.Refusal.{Refusal}
 use Rattle.sound.proofs.Unbroken.{Counts, counts_fit}
 use Rattle.steps.specs.Steps.{is_manual}
-use Rattle.tape_orders.specs.OrderRecords.{mode_of}
+use Rattle.world.specs.Modes.{mode_of}
 use Rattle.tape.specs.Tape.{Kind, kind_in, kinds, record_of, decoded}
 use Rattle.std.specs.Prelude.{Result, Ok, Err}
 use Rattle.tape_loads.specs.LoadRecords.{line_record}
-use Rattle.fields.specs.Fields.{head_of}
-use Rattle.layout.specs.Layout.{kind_of, n_of, v_of}
+use Rattle.layout.specs.Layout.{kind_of, n_of, v_of, fields_of}
 use Rattle.tape_records.specs.declared.Read.{Read}
-use Rattle.tape_records.specs.declared.Read.TheVariants.{Accepted, Tick}
+use Rattle.tape_records.specs.declared.Found.{Found}
+use Rattle.tape_records.specs.declared.Found.TheVariants.{Change, Tick}
 use Rattle.tape_records.specs.declared.Record.{Record}
 use Rattle.tick.specs.Counters.{Low}
 use Rattle.laws.proofs.Choices.{both, cases}
@@ -49,9 +49,9 @@ Says h (Record.Destination car stop) = Unit {0}
 Says h (Record.Enable car enabled) = Unit {0}
 Says h Record.Start = Unit {0}
 
-abbrev pub Reads : ℕ → Read → Type 0
-Reads h (Accepted read used) = (eqb (kind_of h) 12 ≡ false) × Says h read
-Reads h (Tick dt used) = eqb (kind_of h) 12 ≡ true
+abbrev pub Reads : ℕ → Found → Type 0
+Reads h (Change found) = (eqb (kind_of h) 12 ≡ false) × Says h found
+Reads h (Tick dt) = eqb (kind_of h) 12 ≡ true
 
 not_manual : (v : ℕ) → eqb v 3 ≡ false → is_manual (mode_of v) ≡ false
 not_manual v e =
@@ -63,7 +63,7 @@ not_manual v e =
 
 abbrev pub Brings : ℕ → Result Read Refusal → Type 0
 Brings h (Err r) = Unit {0}
-Brings h (Ok r) = Reads h r
+Brings h (Ok r) = Reads h r.found
 
 abbrev Each : (Result Read Refusal → Type 0) → ℕ → List Kind → Type 0
 Each P k [] = Unit {0}
@@ -80,7 +80,7 @@ pub decoded_reads : (ws : List ℕ) → Brings (get_or ws 0 0) (decoded ws)
 unfolding decoded record_of line_record
 decoded_reads ws =
     both (Brings h) (eqb (length ws) 0) tt
-    (kind_reads (Brings h) (kind_of h) (kinds (head_of h) ws) (λ r. tt) (no 1 refl, (no 2 refl, (no 3 refl, (no 4 refl, (no 5 refl, ((λ e. (not_tick 6 refl e, λ q. not_manual (v_of h) (mine e q))), (no 7 refl, (no 8 refl, (no 9 refl, (no 10 refl, (no 11 refl, ((λ e. e), (no 13 refl, tt))))))))))))))
+    (kind_reads (Brings h) (kind_of h) (kinds (fields_of h) ws) (λ r. tt) (no 1 refl, (no 2 refl, (no 3 refl, (no 4 refl, (no 5 refl, ((λ e. (not_tick 6 refl e, λ q. not_manual (v_of h) (mine e q))), (no 7 refl, (no 8 refl, (no 9 refl, (no 10 refl, (no 11 refl, ((λ e. e), (no 13 refl, tt))))))))))))))
   where
     h : ℕ
     h = get_or ws 0 0

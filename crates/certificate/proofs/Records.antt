@@ -31,6 +31,7 @@ use Rattle.tape.specs.Tape.{decoded}
 use Rattle.layout.specs.Layout.{kind_of}
 use Rattle.std.specs.Prelude.{Result, Ok, Err}
 use Rattle.tape_records.specs.declared.Read.{Read}
+use Rattle.tape_records.specs.declared.Found.{Found}
 use Rattle.tape_records.specs.declared.Record.{Record}
 use Rattle.loads.specs.Loads as Loads
 use Rattle.changes.specs.Changes as Changes
@@ -255,14 +256,14 @@ module _ (w : World) (c : Call) (j : List ℕ) (h : Sums w j) (used : ℕ) where
       (λ n q e p i f. record { sound = f.sound; tame = f.tame }) refl
   changed_kept Record.Start t s = plain w c j h used (Changes.start_checks w) _ t (λ q e. (h, λ n k p. k))
 
-made_kept : (w : World) (c : Call) (j : List ℕ) → Sums w j → Unbroken w → (r : Read) → Reads (head_word c) r
-    → Gives w c j (made_of w c.log r)
-made_kept w c j h u (Read.Accepted read used) s = changed_kept w c j h used read s.0 s.1
-made_kept w c j h u (Read.Tick dt used) s = tick_kept w c j h used dt u s
+made_kept : (w : World) (c : Call) (j : List ℕ) → Sums w j → Unbroken w → (used : ℕ) (found : Found) → Reads (head_word c) found
+    → Gives w c j (made_of w c.log used found)
+made_kept w c j h u used (Found.Change found) s = changed_kept w c j h used found s.0 s.1
+made_kept w c j h u used (Found.Tick dt) s = tick_kept w c j h used dt u s
 
 read_kept : (w : World) (c : Call) (j : List ℕ) → Sums w j → Unbroken w → (d : Result Read Refusal) → Brings (head_word c) d → Gives w c j (read_by w c.log d)
 read_kept w c j h u (Err r) s = refuses w c j h 0 r
-read_kept w c j h u (Ok d) s = made_kept w c j h u d s
+read_kept w c j h u (Ok d) s = made_kept w c j h u d.used d.found s
 
 record_kept : (w : World) (c : Call) (j : List ℕ) → Sums w j → Gives w c j (record_of w c.words c.log)
 unfolding record_of

@@ -21,10 +21,10 @@ use Rattle.world.specs.declared.refusal.Refusal.TheVariants.{BrokenWorld, CutSho
 use Rattle.tape_records.specs.Answers as TapeAnswers
 use Rattle.tape.specs.Tape as Tape
 use Rattle.tape.specs.Tape.{Kind, kinds, kind_in, decoded}
-use Rattle.fields.specs.Fields.{head_of}
-use Rattle.layout.specs.Layout.{kind_of}
+use Rattle.layout.specs.Layout.{kind_of, fields_of}
 use Rattle.tape.specs.Facts.{Facts, InBounds, ReadInBounds}
 use Rattle.tape_records.specs.declared.Read.{Read}
+use Rattle.tape_records.specs.declared.Found.{Found}
 use Rattle.tape_records.specs.declared.Record.{Record}
 use Rattle.tape_records.specs.declared.Record.TheVariants.{Line, Stop, Car, Rider, Send, Mode, ManualSpeed, DoorCommand, HallCall, Destination, Enable, Start}
 use Rattle.tape.proofs.Bounds.{in_bounds}
@@ -63,22 +63,22 @@ state_checks w (Destination car stop) = destination_checks w car stop
 state_checks w (Enable car enabled) = order_checks w car
 state_checks w Start = start_checks w
 
-abbrev pub behind : World → List ℕ → Read → List Check
-behind w log (Read.Accepted read used) = state_checks w read
-behind w log (Read.Tick dt used) = checks_of_tick w log
+abbrev pub behind : World → List ℕ → Found → List Check
+behind w log (Found.Change found) = state_checks w found
+behind w log (Found.Tick dt) = checks_of_tick w log
 
 -- a kind's conditions: those that the input brings, then the state's
 abbrev pub checks_in : World → List ℕ → ℕ → List Kind → List Check
 checks_in w log k [] = check UnknownKind true ∷ []
 checks_in w log k (t ∷ ts) =
-    cond (eqb k t.number) (t.deed.checks ++ behind w log t.deed.done) (checks_in w log k ts)
+    cond (eqb k t.number) (t.deed.checks ++ behind w log t.deed.done.found) (checks_in w log k ts)
 
 -- all conditions of a call, "in the order of the numbers, 2 before a short body"; "A line's count outside its codes is found before the body is measured."
 unfoldable pub conditions : World → List ℕ → List ℕ → List Check
 conditions w words log =
     check BrokenWorld (broken w)
     ∷ check CutShort (eqb (length words) 0)
-    ∷ checks_in w log (kind_of (get_or words 0 0)) (kinds (head_of (get_or words 0 0)) words)
+    ∷ checks_in w log (kind_of (get_or words 0 0)) (kinds (fields_of (get_or words 0 0)) words)
 
 -- the answer is the refusal of the first condition that holds; where none holds the record is accepted
 unfoldable pub Answers : List Check → Answer → Type 0
@@ -160,13 +160,13 @@ module _ (w : World) (words lent : List ℕ) where
 
   -- ---- what was read
 
-  abbrev Fits : Record → ℕ → Type 0
-  Fits read used = ReadInBounds words (Read.Accepted read used)
+  abbrev Fits : ℕ → Found → Type 0
+  Fits used found = ReadInBounds words (record { found = found; used = used })
 
   some_fine : {cs : List Check} {o : Outcome} {f g : Type 0} → (g → f) → Fine cs f o → Fine cs g o
   some_fine u h = record { answers = h.answers; kept = λ x. h.kept (u x) }
 
-  fine_tick : (used : ℕ) (dt : Float) → Fine (checks_of_tick w lent) (ReadInBounds words (Read.Tick dt used)) (tick_once w lent used dt)
+  fine_tick : (used : ℕ) (dt : Float) → Fine (checks_of_tick w lent) (Fits used (Found.Tick dt)) (tick_once w lent used dt)
   unfolding tick_once Answers room_of
   fine_tick used dt = record {
     answers = unless_answers (λ (o : Outcome). o.answer) (checks_of_tick w lent) [] (refused w lent) (ticked w lent used dt) (λ r. refl) refl;
@@ -174,7 +174,7 @@ module _ (w : World) (words lent : List ℕ) where
         (λ q. ticked_kept used dt (ltb-false (length lent) (room_of w) q.1.1.0) (g.0, g.1) g.2);
   }
 
-  fine_taken : (used : ℕ) (read : Record) → Fine (state_checks w read) (Fits read used) (changed w lent used (change_by w read))
+  fine_taken : (used : ℕ) (read : Record) → Fine (state_checks w read) (Fits used (Found.Change read)) (changed w lent used (change_by w read))
   unfolding load_line load_stop load_car load_rider send set_mode set_manual_speed queue_command press_hall_call push_destination set_enabled start
   fine_taken used (Line number line) = some_fine (λ g. (g.0, g.1)) (fine_changed used (line_checks w number line) (with_line w number line))
   fine_taken used (Stop number position) = some_fine (λ g. (g.0, g.1)) (fine_changed used (stop_checks w number) (with_stop w number position))
@@ -195,10 +195,10 @@ module _ (w : World) (words lent : List ℕ) where
       some_fine (λ g. (g.0, g.1)) (fine_changed used (order_checks w car) (with_car w car (marked (car_at w.cars.items car) enabled)))
   fine_taken used Start = some_fine (λ g. (g.0, g.1)) (fine_changed used (start_checks w) (with_start w))
 
-  fine_read : (read : Read) → Fine (behind w lent read) (ReadInBounds words read) (made_of w lent read)
+  fine_read : (used : ℕ) (found : Found) → Fine (behind w lent found) (Fits used found) (made_of w lent used found)
   unfolding Answers
-  fine_read (Read.Accepted read used) = fine_taken used read
-  fine_read (Read.Tick dt used) = fine_tick used dt
+  fine_read used (Found.Change found) = fine_taken used found
+  fine_read used (Found.Tick dt) = fine_tick used dt
 
   -- ---- the tape's checks before it
 
@@ -207,7 +207,7 @@ module _ (w : World) (words lent : List ℕ) where
 
   kept_by : (d : Result Read Refusal) → InBounds words d → Kept w words lent (answered d)
   kept_by (Err r) g = refused_kept r
-  kept_by (Ok d) g = (fine_read d).kept g
+  kept_by (Ok d) g = (fine_read d.used d.found).kept g
 
   tape_unless : (cs ds : List Check) (d : Result Read Refusal) → Answers ds (answered d).answer → Answers (cs ++ ds) (answered (unless cs Err d)).answer
   tape_unless cs ds d = unless_answers (λ (x : Result Read Refusal). (answered x).answer) cs ds Err d (λ r. refl)
@@ -221,14 +221,14 @@ module _ (w : World) (words lent : List ℕ) where
   unfolding Answers
   in_kinds k [] = inl (refl, refl)
   in_kinds k (t ∷ ts) =
-      either (eqb k t.number) (t.deed.checks ++ behind w lent t.deed.done) (checks_in w lent k ts) (TapeAnswers.answer t.deed) (kind_in k ts)
-      (tape_unless t.deed.checks _ (Ok t.deed.done) (fine_read t.deed.done).answers)
+      either (eqb k t.number) (t.deed.checks ++ behind w lent t.deed.done.found) (checks_in w lent k ts) (TapeAnswers.answer t.deed) (kind_in k ts)
+      (tape_unless t.deed.checks _ (Ok t.deed.done) (fine_read t.deed.done.used t.deed.done.found).answers)
       (in_kinds k ts)
 
 pub on_its_condition : OnItsCondition
 unfolding OnItsCondition conditions record_of decoded Tape.record_of
 on_its_condition w words log =
-    let h = head_of (get_or words 0 0) in
+    let h = fields_of (get_or words 0 0) in
     let cs = checks_in w log h.kind (kinds h words) in
     unless_answers (λ (o : Outcome). o.answer) (check BrokenWorld (broken w) ∷ []) (check CutShort (eqb (length words) 0) ∷ cs) (refused w log)
     (answered w words log (decoded words)) (λ r. refl)

@@ -14,9 +14,9 @@ use borrow.Author.Tests.{ltb-true, ltb-false, eqb-true, eqb-false, leb-true, le-
 use Rattle.laws.proofs.Bools.{no}
 use Rattle.laws.proofs.Choices.{both, cases}
 use Rattle.float.specs.Float as F64
-use Rattle.layout.specs.Layout.{n_of}
-use Rattle.fields.specs.declared.head.Head.{Head}
-use Rattle.fields.specs.Fields.{head_of, float_at, raw_zero_at, outside_size, outside_from_zero, outside_above_zero}
+use Rattle.layout.specs.Layout.{n_of, fields_of}
+use Rattle.layout.specs.declared.Fields.{Fields}
+use Rattle.fields.specs.Fields.{float_at, raw_zero_at, outside_size, outside_from_zero, outside_above_zero}
 use Rattle.sound_rows.specs.Rows.{any_to, stop_unloaded, car_unloaded, rider_phase_unloaded, line_broken, rider_broken}
 use Rattle.world.specs.World.{car_at}
 use Rattle.world.specs.Refusal.{Check}
@@ -254,10 +254,10 @@ module _ (x : Verdict) (w : World) (words log : List ℕ) where
 
   -- a kind's checks
   abbrev read_in : Deed → List Check
-  read_in d = d.checks ++ behind w log d.done
+  read_in d = d.checks ++ behind w log d.done.found
 
-  abbrev head : Head
-  head = head_of (get_or words 0 0)
+  abbrev head : Fields
+  head = fields_of (get_or words 0 0)
 
   abbrev sound : Type 0
   sound = Broken w → ⊥

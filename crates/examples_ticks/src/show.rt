@@ -1,7 +1,8 @@
 // What is printed of a tick: a line of its words, a line a car, a line with the counters and the hall calls.
 ghost use Rattle.std.specs.Prelude.{◌<◌};
 
-use door::{DoorCommand, DoorState};
+use door::DoorState;
+use log_words::code_and_ticks;
 use std::fmt;
 use world::{Car, ElevatorPhase, World};
 
@@ -139,12 +140,8 @@ impl fmt::Display for Commands<'_> {
         let car = self.0;
         let queue = car.door_command_queue;
         for command in queue.items.iter().take(queue.count) {
-            match *command {
-                DoorCommand::Open => write!(f, "00000")?,
-                DoorCommand::Close => write!(f, "10000")?,
-                DoorCommand::HoldOpen { ticks } => write!(f, "2{ticks:04x}")?,
-                DoorCommand::CancelHold => write!(f, "30000")?,
-            }
+            let (code, ticks) = code_and_ticks(*command);
+            write!(f, "{code}{ticks:04x}")?;
         }
         Ok(())
     }

@@ -1,14 +1,8 @@
--- The fields of a record: its head word, the floats of its body, and their ranges. Negative zero is level with zero in `lt` and `le`.
+-- The fields of a record's body: its floats, and their ranges. Negative zero is level with zero in `lt` and `le`.
 use Rattle.std.specs.Prelude.{Bool, not, ◌&&◌, ◌||◌, List, ℕ, ◌+◌, ◌*◌, ◌^◌, eqb, get_or, Float}
 use Rattle.std.specs.Float.{binary64}
 use Rattle.std.specs.Float.Ieee.{lt, le, of_bits}
 use Rattle.float.specs.Float as F64
-use Rattle.layout.specs.Layout.{kind_of, n_of, s_of, v_of}
-use Rattle.fields.specs.declared.head.Head.{Head}
-
--- "Head: bits 31-28 kind, 27-24 n, 23-16 s, 15-0 v"
-abbrev pub head_of : ℕ → Head
-head_of h = record { kind = kind_of h; n = n_of h; s = s_of h; v = v_of h }
 
 -- "A float is two words, high half first"
 unfoldable pub float_at : List ℕ → ℕ → Float

@@ -41,7 +41,8 @@ pub fn raw_zero_at(words: &[u32], at: u8) -> bool
     (word_at(words, high) == 0) & (word_at(words, high + 1) == 0)
 }
 
-// Stays: the three below are not `contains` of a range, which where `most` is a NaN gives another answer.
+// Stays: the three below are not `contains` of a range. Where `most` is a NaN, `contains` is false and every float would be outside; `x > most` is
+// false too, and only the other tests count.
 
 // Not finite, or above `most` in size.
 pub fn outside_size(x: f64, most: f64) -> bool
@@ -57,9 +58,10 @@ pub fn outside_from_zero(x: f64, most: f64) -> bool
     !is_finite(x) | (x < 0.0) | (x > most)
 }
 
-// Not finite, or not above 0 to `most`.
+// 0 itself, or outside from 0 to `most`.
+#[tactic(auto, using(crate::proofs::Ranges::above_zero))]
 pub fn outside_above_zero(x: f64, most: f64) -> bool
     ensures { result ≡ outside_above_zero x most }
 {
-    !is_finite(x) | (x <= 0.0) | (x > most)
+    (x == 0.0) | outside_from_zero(x, most)
 }

@@ -1,5 +1,4 @@
-// The fields of a record: its head word, and the words and floats of its body.
+// The fields of a record's body: its words and floats. Those of its head word are `layout`'s.
 #![tactic(auto)]
 
-pub mod head; // the fields of a head word
 pub mod body; // words and floats of a body, and their ranges

@@ -31,6 +31,7 @@ use Rattle.tape.specs.Tape.{decoded}
 use Rattle.tape.specs.Facts.{InBounds, Facts}
 use Rattle.tape.proofs.Bounds.{in_bounds}
 use Rattle.tape_records.specs.declared.Read.{Read}
+use Rattle.tape_records.specs.declared.Found.{Found}
 use Rattle.tape_records.specs.declared.Record.{Record}
 use Rattle.loads.specs.Loads.{count_with, line_checks, stop_checks, car_checks, rider_checks, load_line, load_stop, load_car, load_rider}
 use Rattle.changes.specs.Changes.{not_next, no_such_car, start_checks, start}
@@ -314,13 +315,13 @@ module _ (w : World) (h : Sound w) (log : List ℕ) (used : ℕ) where
   changed_good (Record.Enable car enabled) = enable_keeps car enabled
   changed_good Record.Start = start_keeps
 
-made_good : (w : World) (log : List ℕ) (read : Read) → Sound w → Good (made_of w log read)
-made_good w log (Read.Accepted read used) h = changed_good w h log used read
-made_good w log (Read.Tick dt used) h = tick_keeps w h log used dt
+made_good : (w : World) (log : List ℕ) (used : ℕ) (found : Found) → Sound w → Good (made_of w log used found)
+made_good w log used (Found.Change found) h = changed_good w h log used found
+made_good w log used (Found.Tick dt) h = tick_keeps w h log used dt
 
 read_good : (w : World) (words log : List ℕ) (d : Result Read Refusal) → Sound w → InBounds words d → Good (read_by w log d)
 read_good w words log (Err r) h b = record { world = h; answer = b.0 }
-read_good w words log (Ok d) h b = made_good w log d h
+read_good w words log (Ok d) h b = made_good w log d.used d.found h
 
 pub record_good : (w : World) (words log : List ℕ) → Sound w → Good (record_of w words log)
 unfolding record_of Facts

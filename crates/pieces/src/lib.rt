@@ -11,7 +11,7 @@ use lent::turn;
 use log_writes::Writer;
 use play::{finish, tell_answer};
 use record::{Accepted, Recorded};
-use report::{Counts, no_counts};
+use report::Counts;
 use study_numbers::Text;
 use study_text::{keep, words_of};
 use world::World;
@@ -39,7 +39,7 @@ pub fn begin() -> Study
 {
     Study {
         world: empty(),
-        counts: no_counts(),
+        counts: Counts::default(),
         over: false,
     }
 }

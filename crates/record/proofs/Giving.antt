@@ -9,6 +9,8 @@ use Rattle.world.specs.declared.refusal.Refusal.{Refusal}
 use Rattle.world.specs.declared.refusal.Refusal.TheVariants.{BrokenWorld}
 use Rattle.tape.specs.Tape.{decoded}
 use Rattle.tape_records.specs.declared.Read.{Read}
+use Rattle.tape_records.specs.declared.Found.{Found}
+use Rattle.tape_records.specs.declared.Found.TheVariants.{Tick}
 use Rattle.std.specs.Prelude.{Result, Ok, Err}
 use Rattle.record_kinds.specs.Kinds.{tick_taken}
 use Rattle.log_writes.specs.Log.{Wrote}
@@ -62,15 +64,15 @@ module _ (w : World) (log : List ℕ) where
   pub is_refused : {r : Recorded} {d : Result Read Refusal} {f : Refusal} → d ≡ Err f → Says r w f → Gives r log (read_by w log d)
   is_refused d h = rw d (refusal_gives h)
 
-  pub is_made : {r : Recorded} {left : List ℕ} {d : Result Read Refusal} {read : Read} → d ≡ Ok read → Gives r left (made_of w log read)
-      → Gives r left (read_by w log d)
-  is_made d h = rw d h
+  pub is_made : {r : Recorded} {left : List ℕ} {d : Result Read Refusal} {read : Read} {found : Found} → d ≡ Ok read → read.found ≡ found
+      → Gives r left (made_of w log read.used found) → Gives r left (read_by w log d)
+  is_made d f h = rw (d, f) h
 
-  pub tick_refused : {r : Recorded} (used : ℕ) (dt : Float) {f : Refusal} → tick_says ≡ Err f → Says r w f → Gives r log (made_of w log (Read.Tick dt used))
+  pub tick_refused : {r : Recorded} (used : ℕ) (dt : Float) {f : Refusal} → tick_says ≡ Err f → Says r w f → Gives r log (made_of w log used (Tick dt))
   tick_refused used dt {f = f} t h = rw (tick_said used dt (Err f) t) (refusal_gives h)
 
   pub tick_taken_lem : {r : Recorded} {left : List ℕ} {at : ℕ} (used : ℕ) (dt : Float) → tick_says ≡ Ok tt → r.answer ≡ Ok (record { used = used; written = at }) → r.world ≡ tick_world w dt → Wrote log 0 (tick_words w dt) left at
-      → Gives r left (made_of w log (Read.Tick dt used))
+      → Gives r left (made_of w log used (Tick dt))
   unfolding WordsFit
   tick_taken_lem {at = at} used dt t n m h =
       let fits : length (tick_words w dt) ≤ room_of w = words_fit w dt in

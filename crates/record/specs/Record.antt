@@ -8,6 +8,8 @@ use Rattle.world.specs.declared.refusal.Refusal.{Refusal}
 use Rattle.world.specs.declared.refusal.Refusal.TheVariants.{BrokenWorld}
 use Rattle.tape.specs.Tape.{decoded}
 use Rattle.tape_records.specs.declared.Read.{Read}
+use Rattle.tape_records.specs.declared.Found.{Found}
+use Rattle.tape_records.specs.declared.Found.TheVariants.{Change, Tick}
 use Rattle.changes.specs.Changes.{Changed}
 use Rattle.record_kinds.specs.Kinds.{change_by, tick_checks}
 use Rattle.tick.specs.Tick.{tick_world, tick_words}
@@ -73,15 +75,15 @@ tick_once w log used dt = unless (checks_of_tick w log) (refused w log) (ticked 
 
 -- ---- the record call
 
--- the record
-abbrev pub made_of : World → List ℕ → Read → Outcome
-made_of w log (Read.Accepted read used) = changed w log used (change_by w read)
-made_of w log (Read.Tick dt used) = tick_once w log used dt
+-- the record, of so many words
+abbrev pub made_of : World → List ℕ → ℕ → Found → Outcome
+made_of w log used (Change found) = changed w log used (change_by w found)
+made_of w log used (Tick dt) = tick_once w log used dt
 
 -- refusals 1 to 4, or the record
 abbrev pub read_by : World → List ℕ → Result Read Refusal → Outcome
 read_by w log (Err r) = refused w log r
-read_by w log (Ok read) = made_of w log read
+read_by w log (Ok read) = made_of w log read.used read.found
 
 -- "Checked in the order of the numbers": 0, then what the tape says, then what the state says
 unfoldable pub record_of : World → List ℕ → List ℕ → Outcome

@@ -19,7 +19,7 @@ use record_kinds::{change, take_tick};
 use sound::broken;
 use steps::line_at;
 use tape::decode;
-use tape_records::{Read, Record};
+use tape_records::{Found, Record};
 use trips::{is_trip, trip_of};
 use world::World;
 use world::refusal::Refusal;
@@ -76,10 +76,13 @@ pub fn record(world: World, words: &[u32], log: &mut [u32]) -> Recorded
         return refused(w, Refusal::BrokenWorld);
     }
     // 2. refusals 1 to 12, and every record but the tick
-    let (dt, words_used) = match decode(words) {
-        Ok(Read::Accepted(found, used)) => return answered(w, found, used),
-        Ok(Read::Tick { dt, used }) => (dt, used),
+    let read = match decode(words) {
+        Ok(read) => read,
         Err(refusal) => return refused(w, refusal),
+    };
+    let dt = match read.found {
+        Found::Change(found) => return answered(w, found, read.used),
+        Found::Tick { dt } => dt,
     };
     let taken = take_tick(w.started, w.ticks, w.cars.count, w.stops.count, log.len());
     if let Err(refusal) = taken {
@@ -134,7 +137,7 @@ pub fn record(world: World, words: &[u32], log: &mut [u32]) -> Recorded
     w.ticks = w.ticks.wrapping_add(1);
     Recorded {
         answer: Ok(Accepted {
-            used: words_used,
+            used: read.used,
             written: log.at,
         }),
         world: w,

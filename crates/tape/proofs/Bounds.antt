@@ -19,8 +19,7 @@ use Rattle.tape_records.specs.Answers.{Deed, answer}
 use Rattle.tape.specs.Tape.{Kind, kind_in, kinds, record_of, decoded}
 use Rattle.tape_loads.specs.LoadRecords.{serves_count, line_record, stop_record, car_record, rider_record}
 use Rattle.tape_orders.specs.OrderRecords.{send_record, mode_record, manual_speed_record, door_command_record, hall_call_record, destination_record, enable_record, tick_record, start_record}
-use Rattle.fields.specs.Fields.{head_of}
-use Rattle.layout.specs.Layout.{kind_of}
+use Rattle.layout.specs.Layout.{kind_of, fields_of}
 use Rattle.tape.specs.Facts.{InBounds, Facts}
 
 -- a refusal that a tape's words bring: 1 to 4
@@ -50,10 +49,10 @@ module _ (ws : List ℕ) where
   enough : (used : ℕ) → 0 < used → ltb (length ws) used ≡ false → (0 < used) × (used ≤ length ws)
   enough used p e = (p, ltb-false (length ws) used e)
 
-  record_in : 0 < length ws → Fine (record_of (head_of (get_or ws 0 0)) ws)
+  record_in : 0 < length ws → Fine (record_of (fields_of (get_or ws 0 0)) ws)
   unfolding record_of line_record
   record_in p =
-      let h = head_of (get_or ws 0 0) in
+      let h = fields_of (get_or ws 0 0) in
       kind_in_lem (kinds h ws)
       ((λ e. deed (line_record h ws) refl (λ q. let n = enough (5 + serves_count h.v) (omega arith) q.1.0 in (n.0, n.1, e)))
       and (λ e. deed (stop_record h ws) refl (λ q. let n = enough 3 (omega arith) q.0 in (n.0, n.1, e)))

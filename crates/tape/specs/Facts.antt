@@ -3,13 +3,14 @@ use Rattle.std.specs.Prelude.{Result, Ok, Err, ◌≡◌, List, ℕ, ◌<◌, �
 use Rattle.world.specs.Refusal.{refusal_number}
 use Rattle.world.specs.declared.refusal.Refusal.{Refusal}
 use Rattle.tape_records.specs.declared.Read.{Read}
-use Rattle.tape_records.specs.declared.Read.TheVariants.{Accepted, Tick}
+use Rattle.tape_records.specs.declared.Found.{Found}
+use Rattle.tape_records.specs.declared.Found.TheVariants.{Change, Tick}
 use Rattle.tape_records.specs.declared.Record.{Record}
 use Rattle.tape_records.specs.declared.Record.TheVariants.{Line, Stop, Car, Rider, Send, Mode, ManualSpeed, DoorCommand, HallCall, Destination, Enable, Start}
 use Rattle.tape.specs.Tape.{decoded}
 use Rattle.layout.specs.Layout.{kind_of}
 
--- the kind of a record; a tick is kind C
+-- the kind of a record other than a tick
 abbrev pub kind_number : Record → ℕ
 kind_number (Line number line) = 1
 kind_number (Stop number position) = 2
@@ -24,10 +25,14 @@ kind_number (Destination car stop) = 10
 kind_number (Enable car enabled) = 11
 kind_number Start = 13
 
+-- a tick is kind C
+abbrev pub found_number : Found → ℕ
+found_number (Change r) = kind_number r
+found_number (Tick dt) = 12
+
 -- a record takes some words and no more than there are, and its kind is its head's
 abbrev pub ReadInBounds : List ℕ → Read → Type 0
-ReadInBounds ws (Accepted r used) = (0 < used) × (used ≤ length ws) × (kind_of (get_or ws 0 0) ≡ kind_number r)
-ReadInBounds ws (Tick dt used) = (0 < used) × (used ≤ length ws) × (kind_of (get_or ws 0 0) ≡ 12)
+ReadInBounds ws r = (0 < r.used) × (r.used ≤ length ws) × (kind_of (get_or ws 0 0) ≡ found_number r.found)
 
 -- a refusal is 1 to 4
 abbrev pub InBounds : List ℕ → Result Read Refusal → Type 0

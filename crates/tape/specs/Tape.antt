@@ -3,8 +3,8 @@ use Rattle.std.specs.Prelude.{Result, Err, cond, List, [], ◌∷◌, ℕ, eqb, 
 use Rattle.world.specs.Refusal.{check, unless}
 use Rattle.world.specs.declared.refusal.Refusal.{Refusal}
 use Rattle.world.specs.declared.refusal.Refusal.TheVariants.{CutShort, UnknownKind}
-use Rattle.fields.specs.declared.head.Head.{Head}
-use Rattle.fields.specs.Fields.{head_of}
+use Rattle.layout.specs.declared.Fields.{Fields}
+use Rattle.layout.specs.Layout.{fields_of}
 use Rattle.tape_records.specs.declared.Read.{Read}
 use Rattle.tape_records.specs.Answers.{Deed, answer}
 use Rattle.tape_loads.specs.LoadRecords.{line_record, stop_record, car_record, rider_record}
@@ -23,7 +23,7 @@ abbrev pub kind_in : ℕ → List Kind → Result Read Refusal
 kind_in k [] = Err UnknownKind
 kind_in k (t ∷ ts) = cond (eqb k t.number) (answer t.deed) (kind_in k ts)
 
-abbrev pub kinds : Head → List ℕ → List Kind
+abbrev pub kinds : Fields → List ℕ → List Kind
 kinds h ws =
     kind 1 (line_record h ws)
     ∷ kind 2 (stop_record h ws)
@@ -41,8 +41,8 @@ kinds h ws =
     ∷ []
 
 -- the record of a head and words, and the record that words begin with
-unfoldable pub record_of : Head → List ℕ → Result Read Refusal
+unfoldable pub record_of : Fields → List ℕ → Result Read Refusal
 record_of h ws = kind_in h.kind (kinds h ws)
 
 unfoldable pub decoded : List ℕ → Result Read Refusal
-decoded ws = unless (check CutShort (eqb (length ws) 0) ∷ []) Err (record_of (head_of (get_or ws 0 0)) ws)
+decoded ws = unless (check CutShort (eqb (length ws) 0) ∷ []) Err (record_of (fields_of (get_or ws 0 0)) ws)

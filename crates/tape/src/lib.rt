@@ -6,7 +6,7 @@ pub mod facts; // claims about the definitions
 ghost use Rattle.std.specs.Prelude.{◌≡◌};
 ghost use Rattle.tape.specs.Tape.{decoded};
 
-use fields::head::head_of;
+use layout::fields_of;
 use tape_records::Read;
 use world::refusal::Refusal;
 
@@ -18,7 +18,7 @@ pub fn decode(words: &[u32]) -> Result<Read, Refusal>
     if words.is_empty() {
         return Err(Refusal::CutShort);
     }
-    let head = head_of(words[0]);
+    let head = fields_of(words[0]);
     // Stays: a match on the number, which is read here alone and stands beside its decoder's name. An enum of the kinds would list the thirteen
     // names three times: in itself, in its TryFrom and in this match.
     match head.kind {

@@ -10,10 +10,10 @@ use Rattle.std.specs.declared.option.Option.{Option}
 use Rattle.std.specs.declared.option.Option.TheVariants.{None, Some}
 use Rattle.world.specs.declared.RiderPhase.{RiderPhase}
 use Rattle.world.specs.declared.RiderPhase.TheVariants.{Waiting, Boarding, Riding, Exiting, Walking, Arrived, Abandoned, Resident}
-use Rattle.fields.specs.declared.head.Head.{Head}
+use Rattle.layout.specs.declared.Fields.{Fields}
 use Rattle.fields.specs.Fields.{float_at, raw_zero_at, outside_size, outside_from_zero, outside_above_zero}
 use Rattle.tape_records.specs.declared.Record.TheVariants as Record
-use Rattle.tape_records.specs.declared.Read.TheVariants.{Accepted}
+use Rattle.tape_records.specs.declared.Found.TheVariants.{Change}
 use Rattle.tape_records.specs.Answers.{not_stop, not_line, not_car, not_rider, nonzero, million, thousand, ten, Deed}
 use Rattle.tape_loads.specs.declared.RiderBody.{RiderBody}
 
@@ -32,22 +32,22 @@ unfoldable pub serves_to : List ℕ → ℕ → List ℕ
 serves_to ws zero = replicate 64 0
 serves_to ws (suc i) = set (serves_to ws i) i (get_or ws (5 + i) 0)
 
-unfoldable pub line_fields_outside : Head → List ℕ → Bool
+unfoldable pub line_fields_outside : Fields → List ℕ → Bool
 line_fields_outside h ws = not_line h.n || ltb 1 h.s || eqb h.s 0 && not (raw_zero_at ws 1 && raw_zero_at ws 3)
 
-unfoldable pub line_floats_outside : Head → List ℕ → Bool
+unfoldable pub line_floats_outside : Fields → List ℕ → Bool
 line_floats_outside h ws = eqb h.s 1 && (outside_above_zero (float_at ws 1) million || outside_from_zero (float_at ws 3) million)
 
-unfoldable pub line_kind_of : Head → List ℕ → LineKind
+unfoldable pub line_kind_of : Fields → List ℕ → LineKind
 line_kind_of h ws = cond (eqb h.s 0) Linear (Loop (float_at ws 1) (float_at ws 3))
 
 -- its kind, and the stops that it serves
-abbrev pub line_row : Head → List ℕ → Line
+abbrev pub line_row : Fields → List ℕ → Line
 line_row h ws =
     let count = serves_count h.v in
     record { kind = line_kind_of h ws; serves = record { listed = not (eqb h.v 65535); stops = record { items = serves_to ws count; count = count } } }
 
-unfoldable pub line_record : Head → List ℕ → Deed
+unfoldable pub line_record : Fields → List ℕ → Deed
 line_record h ws =
     let count = serves_count h.v in
     record {
@@ -57,19 +57,19 @@ line_record h ws =
           ∷ check FieldOutside (line_fields_outside h ws || serves_outside ws count)
           ∷ check FloatOutside (line_floats_outside h ws)
           ∷ [];
-      done = Accepted (Record.Line h.n (line_row h ws)) (5 + count);
+      done = record { found = Change (Record.Line h.n (line_row h ws)); used = 5 + count };
     }
 
 -- ---- 2 stop: s number; body position
 
-abbrev pub stop_record : Head → List ℕ → Deed
+abbrev pub stop_record : Fields → List ℕ → Deed
 stop_record h ws = record {
   checks =
       check CutShort (ltb (length ws) 3)
       ∷ check FieldOutside (nonzero h.n || not_stop h.s || nonzero h.v)
       ∷ check FloatOutside (outside_size (float_at ws 1) million)
       ∷ [];
-  done = Accepted (Record.Stop h.s (float_at ws 1)) 3;
+  done = record { found = Change (Record.Stop h.s (float_at ws 1)); used = 3 };
 }
 
 -- ---- 3 car: n number; s line; body six floats, then transition ticks and open ticks
@@ -93,14 +93,14 @@ motion_outside m =
     || outside_from_zero m.deceleration thousand
     || outside_from_zero m.inspection_speed_factor ten
 
-abbrev pub car_record : Head → List ℕ → Deed
+abbrev pub car_record : Fields → List ℕ → Deed
 car_record h ws = record {
   checks =
       check CutShort (ltb (length ws) 15)
       ∷ check FieldOutside (not_line h.s || nonzero h.v)
       ∷ check FloatOutside (motion_outside (motion_at ws))
       ∷ [];
-  done = Accepted (Record.Car h.n (record { line = h.s; motion = motion_at ws; door_transition_ticks = get_or ws 13 0; door_open_ticks = get_or ws 14 0 })) 15;
+  done = record { found = Change (Record.Car h.n (record { line = h.s; motion = motion_at ws; door_transition_ticks = get_or ws 13 0; door_open_ticks = get_or ws 14 0 })); used = 15 };
 }
 
 -- ---- 4 rider: s number; v destination stop or 65,535 for none
@@ -134,7 +134,7 @@ car_option car = cond (eqb car 255) None (Some car)
 abbrev pub stop_option : ℕ → Option ℕ
 stop_option stop = cond (ltb stop 64) (Some stop) None
 
-abbrev pub rider_record : Head → List ℕ → Deed
+abbrev pub rider_record : Fields → List ℕ → Deed
 rider_record h ws =
     let b = rider_body (get_or ws 1 0) in
     record {
@@ -142,5 +142,5 @@ rider_record h ws =
           check CutShort (ltb (length ws) 2)
           ∷ check FieldOutside (nonzero h.n || not_rider h.s || not_stop h.v && not (eqb h.v 65535) || rider_body_outside b)
           ∷ [];
-      done = Accepted (Record.Rider h.s (record { destination = stop_option h.v; phase = rider_phase b.phase b.car; aboard = car_option b.aboard })) 2;
+      done = record { found = Change (Record.Rider h.s (record { destination = stop_option h.v; phase = rider_phase b.phase b.car; aboard = car_option b.aboard })); used = 2 };
     }

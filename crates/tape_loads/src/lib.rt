@@ -9,8 +9,8 @@ ghost use Rattle.tape_loads.specs.LoadRecords.{serves_count, serves_outside, ser
 use fields::body::{
     float_at, outside_above_zero, outside_from_zero, outside_size, raw_zero_at, word_at,
 };
-use fields::head::Head;
-use tape_records::{Read, Record, refuse_if};
+use layout::Fields;
+use tape_records::{Found, Read, Record, refuse_if};
 use world::refusal::Refusal;
 use world::{CarPlan, Line, LineKind, Motion, Rider, RiderPhase, Serves, Table};
 
@@ -50,8 +50,9 @@ fn serves_to(words: &[u32], count: usize) -> Result<[u8; 64], Refusal>
     Ok(serves)
 }
 
+// Stays: here and below head and words go side by side, as the paper has a head and a body; seven of the thirteen kinds have a head alone.
 #[tactic(auto, unfolding(crate::specs::LoadRecords::line_fields_outside))]
-fn line_fields_outside(head: Head, words: &[u32]) -> bool
+fn line_fields_outside(head: Fields, words: &[u32]) -> bool
     ensures { result ≡ line_fields_outside head words.now }
 {
     let raw_zeros = raw_zero_at(words, 1) & raw_zero_at(words, 3);
@@ -59,7 +60,7 @@ fn line_fields_outside(head: Head, words: &[u32]) -> bool
 }
 
 #[tactic(auto, unfolding(crate::specs::LoadRecords::line_floats_outside))]
-fn line_floats_outside(head: Head, words: &[u32]) -> bool
+fn line_floats_outside(head: Fields, words: &[u32]) -> bool
     ensures { result ≡ line_floats_outside head words.now }
 {
     let outside = outside_above_zero(float_at(words, 1), 1000000.0)
@@ -68,7 +69,7 @@ fn line_floats_outside(head: Head, words: &[u32]) -> bool
 }
 
 #[tactic(auto, unfolding(crate::specs::LoadRecords::line_kind_of))]
-fn line_kind_of(head: Head, words: &[u32]) -> LineKind
+fn line_kind_of(head: Fields, words: &[u32]) -> LineKind
     ensures { result ≡ line_kind_of head words.now }
 {
     if head.s == 0 {
@@ -81,9 +82,8 @@ fn line_kind_of(head: Head, words: &[u32]) -> LineKind
     }
 }
 
-// Stays: here and below head and words go side by side, as the paper has a head and a body; seven of the thirteen kinds have a head alone.
 #[tactic(auto, unfolding(crate::specs::LoadRecords::line_record))]
-pub fn decode_line(head: Head, words: &[u32]) -> Result<Read, Refusal>
+pub fn decode_line(head: Fields, words: &[u32]) -> Result<Read, Refusal>
     ensures { result ≡ answer (line_record head words.now) }
 {
     let count = serves_count(head.v)?;
@@ -97,14 +97,17 @@ pub fn decode_line(head: Head, words: &[u32]) -> Result<Read, Refusal>
         listed: head.v != 65535,
         stops,
     };
-    let record = Record::Line {
+    let found = Found::Change(Record::Line {
         number: head.n,
         line: Line { kind, serves },
-    };
-    Ok(Read::Accepted(record, 5 + count))
+    });
+    Ok(Read {
+        found,
+        used: 5 + count,
+    })
 }
 
-pub fn decode_stop(head: Head, words: &[u32]) -> Result<Read, Refusal>
+pub fn decode_stop(head: Fields, words: &[u32]) -> Result<Read, Refusal>
     ensures { result ≡ answer (stop_record head words.now) }
 {
     refuse_if(words.len() < 3, Refusal::CutShort)?;
@@ -112,11 +115,11 @@ pub fn decode_stop(head: Head, words: &[u32]) -> Result<Read, Refusal>
     refuse_if(field_outside, Refusal::FieldOutside)?;
     let position = float_at(words, 1);
     refuse_if(outside_size(position, 1000000.0), Refusal::FloatOutside)?;
-    let record = Record::Stop {
+    let found = Found::Change(Record::Stop {
         number: head.s,
         position,
-    };
-    Ok(Read::Accepted(record, 3))
+    });
+    Ok(Read { found, used: 3 })
 }
 
 fn motion_at(words: &[u32]) -> Motion
@@ -143,7 +146,7 @@ fn motion_outside(motion: Motion) -> bool
         | outside_from_zero(motion.inspection_speed_factor, 10.0)
 }
 
-pub fn decode_car(head: Head, words: &[u32]) -> Result<Read, Refusal>
+pub fn decode_car(head: Fields, words: &[u32]) -> Result<Read, Refusal>
     ensures { result ≡ answer (car_record head words.now) }
 {
     refuse_if(words.len() < 15, Refusal::CutShort)?;
@@ -156,11 +159,11 @@ pub fn decode_car(head: Head, words: &[u32]) -> Result<Read, Refusal>
         door_transition_ticks: word_at(words, 13),
         door_open_ticks: word_at(words, 14),
     };
-    let record = Record::Car {
+    let found = Found::Change(Record::Car {
         number: head.n,
         plan,
-    };
-    Ok(Read::Accepted(record, 15))
+    });
+    Ok(Read { found, used: 15 })
 }
 
 // The body word of a rider: bits 7-0 phase, 15-8 phase's car, 23-16 car aboard, top bits.
@@ -221,7 +224,7 @@ fn stop_option(stop: u32) -> Result<Option<u8>, Refusal>
     }
 }
 
-pub fn decode_rider(head: Head, words: &[u32]) -> Result<Read, Refusal>
+pub fn decode_rider(head: Fields, words: &[u32]) -> Result<Read, Refusal>
     ensures { result ≡ answer (rider_record head words.now) }
 {
     refuse_if(words.len() < 2, Refusal::CutShort)?;
@@ -233,9 +236,9 @@ pub fn decode_rider(head: Head, words: &[u32]) -> Result<Read, Refusal>
         phase: rider_phase(body.phase, body.car)?,
         aboard: car_option(body.aboard)?,
     };
-    let record = Record::Rider {
+    let found = Found::Change(Record::Rider {
         number: head.s,
         rider,
-    };
-    Ok(Read::Accepted(record, 2))
+    });
+    Ok(Read { found, used: 2 })
 }

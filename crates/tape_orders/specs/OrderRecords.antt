@@ -5,37 +5,33 @@ use Rattle.door.specs.declared.DoorCommand.{DoorCommand}
 use Rattle.door.specs.declared.DoorCommand.TheVariants as Command
 use Rattle.world.specs.Refusal.{check}
 use Rattle.world.specs.declared.refusal.Refusal.TheVariants.{CutShort, FieldOutside, FloatOutside}
-use Rattle.world.specs.declared.ServiceMode.{ServiceMode}
-use Rattle.world.specs.declared.ServiceMode.TheVariants.{Normal, Independent, Inspection, Manual, OutOfService}
+use Rattle.world.specs.Modes.{mode_of}
 use Rattle.std.specs.declared.option.Option.{Option}
 use Rattle.std.specs.declared.option.Option.TheVariants.{None, Some}
-use Rattle.fields.specs.declared.head.Head.{Head}
+use Rattle.layout.specs.declared.Fields.{Fields}
 use Rattle.fields.specs.Fields.{float_at, raw_zero_at, outside_size, outside_above_zero}
 use Rattle.tape_records.specs.declared.Record.TheVariants as Record
 use Rattle.tape_records.specs.Answers.{not_stop, nonzero, thousand, Deed}
-use Rattle.tape_records.specs.declared.Read.TheVariants.{Accepted, Tick}
+use Rattle.tape_records.specs.declared.Found.TheVariants.{Change, Tick}
 
 -- ---- 5 send: n car, s stop, v 0 go, 1 reposition
 
-abbrev pub send_record : Head → Deed
+abbrev pub send_record : Fields → Deed
 send_record h = record {
   checks =
       check FieldOutside (not_stop h.s || ltb 1 h.v)
       ∷ [];
-  done = Accepted (Record.Send h.n h.s (eqb h.v 1)) 1;
+  done = record { found = Change (Record.Send h.n h.s (eqb h.v 1)); used = 1 };
 }
 
 -- ---- 6 mode: n car, v 0 Normal, 1 Independent, 2 Inspection, 3 Manual, 4 OutOfService
 
-abbrev pub mode_of : ℕ → ServiceMode
-mode_of v = cond (eqb v 0) Normal (cond (eqb v 1) Independent (cond (eqb v 2) Inspection (cond (eqb v 3) Manual OutOfService)))
-
-abbrev pub mode_record : Head → Deed
+abbrev pub mode_record : Fields → Deed
 mode_record h = record {
   checks =
       check FieldOutside (nonzero h.s || ltb 4 h.v)
       ∷ [];
-  done = Accepted (Record.Mode h.n (mode_of h.v)) 1;
+  done = record { found = Change (Record.Mode h.n (mode_of h.v)); used = 1 };
 }
 
 -- ---- 7 manual speed: n car, v 1 set, 0 none; body a float (raw zero words if none)
@@ -43,14 +39,14 @@ mode_record h = record {
 abbrev pub speed_of : ℕ → Float → Option Float
 speed_of v speed = cond (eqb v 1) (Some speed) None
 
-abbrev pub manual_speed_record : Head → List ℕ → Deed
+abbrev pub manual_speed_record : Fields → List ℕ → Deed
 manual_speed_record h ws = record {
   checks =
       check CutShort (ltb (length ws) 3)
       ∷ check FieldOutside (nonzero h.s || ltb 1 h.v || eqb h.v 0 && not (raw_zero_at ws 1))
       ∷ check FloatOutside (eqb h.v 1 && outside_size (float_at ws 1) thousand)
       ∷ [];
-  done = Accepted (Record.ManualSpeed h.n (speed_of h.v (float_at ws 1))) 3;
+  done = record { found = Change (Record.ManualSpeed h.n (speed_of h.v (float_at ws 1))); used = 3 };
 }
 
 -- ---- 8 door command: n car, s 0 Open, 1 Close, 2 HoldOpen with v ticks, 3 CancelHold
@@ -58,66 +54,66 @@ manual_speed_record h ws = record {
 abbrev pub command_of : ℕ → ℕ → DoorCommand
 command_of s v = cond (eqb s 0) Command.Open (cond (eqb s 1) Command.Close (cond (eqb s 2) (Command.HoldOpen v) Command.CancelHold))
 
-abbrev pub door_command_record : Head → Deed
+abbrev pub door_command_record : Fields → Deed
 door_command_record h = record {
   checks =
       check FieldOutside (ltb 3 h.s || not (eqb h.s 2) && nonzero h.v)
       ∷ [];
-  done = Accepted (Record.DoorCommand h.n (command_of h.s h.v)) 1;
+  done = record { found = Change (Record.DoorCommand h.n (command_of h.s h.v)); used = 1 };
 }
 
 -- ---- 9 hall call: s stop, v 0 up, 1 down
 
-abbrev pub hall_call_record : Head → Deed
+abbrev pub hall_call_record : Fields → Deed
 hall_call_record h = record {
   checks =
       check FieldOutside (nonzero h.n || not_stop h.s || ltb 1 h.v)
       ∷ [];
-  done = Accepted (Record.HallCall h.s (eqb h.v 1)) 1;
+  done = record { found = Change (Record.HallCall h.s (eqb h.v 1)); used = 1 };
 }
 
 -- ---- A destination: n car, s stop
 
-abbrev pub destination_record : Head → Deed
+abbrev pub destination_record : Fields → Deed
 destination_record h = record {
   checks =
       check FieldOutside (not_stop h.s || nonzero h.v)
       ∷ [];
-  done = Accepted (Record.Destination h.n h.s) 1;
+  done = record { found = Change (Record.Destination h.n h.s); used = 1 };
 }
 
 -- ---- B: n car, v 0 enable, 1 disable
 
-abbrev pub enable_record : Head → Deed
+abbrev pub enable_record : Fields → Deed
 enable_record h = record {
   checks =
       check FieldOutside (nonzero h.s || ltb 1 h.v)
       ∷ [];
-  done = Accepted (Record.Enable h.n (eqb h.v 0)) 1;
+  done = record { found = Change (Record.Enable h.n (eqb h.v 0)); used = 1 };
 }
 
 -- ---- C tick: body dt
 
 -- "Fields not named are 0": one of n, s and v is not
-abbrev pub any_field_set : Head → Bool
+abbrev pub any_field_set : Fields → Bool
 any_field_set h = nonzero h.n || nonzero h.s || nonzero h.v
 
-abbrev pub tick_record : Head → List ℕ → Deed
+abbrev pub tick_record : Fields → List ℕ → Deed
 tick_record h ws = record {
   checks =
       check CutShort (ltb (length ws) 3)
       ∷ check FieldOutside (any_field_set h)
       ∷ check FloatOutside (outside_above_zero (float_at ws 1) F64.one)
       ∷ [];
-  done = Tick (float_at ws 1) 3;
+  done = record { found = Tick (float_at ws 1); used = 3 };
 }
 
 -- ---- D start
 
-abbrev pub start_record : Head → Deed
+abbrev pub start_record : Fields → Deed
 start_record h = record {
   checks =
       check FieldOutside (any_field_set h)
       ∷ [];
-  done = Accepted Record.Start 1;
+  done = record { found = Change Record.Start; used = 1 };
 }

@@ -4,57 +4,39 @@
 ghost use Rattle.std.specs.Prelude.{◌≡◌, ◌&&◌, ◌||◌, not, cond, ltb, eqb, Ok, Err};
 ghost use Rattle.world.specs.declared.refusal.Refusal.TheVariants.{FieldOutside};
 ghost use Rattle.tape_records.specs.Answers.{answer, nonzero};
-ghost use Rattle.tape_orders.specs.OrderRecords.{send_record, mode_of, mode_record, speed_of, manual_speed_record, command_of, door_command_record, hall_call_record, destination_record, enable_record, any_field_set, tick_record, start_record};
+ghost use Rattle.tape_orders.specs.OrderRecords.{send_record, mode_record, manual_speed_record, command_of, door_command_record, hall_call_record, destination_record, enable_record, any_field_set, tick_record, start_record};
 
 use door::DoorCommand;
 use fields::body::{float_at, outside_above_zero, outside_size, raw_zero_at};
-use fields::head::Head;
-use tape_records::{Read, Record, refuse_if};
+use layout::Fields;
+use tape_records::{Found, Read, Record, refuse_if};
 use world::ServiceMode;
 use world::refusal::Refusal;
 
-pub fn decode_send(head: Head) -> Result<Read, Refusal>
+// Stays: here and below a function a kind. Each looks at other fields against other codes, and where two do the same they call one function:
+// `refuse_if`, `any_field_set`, the ranges of `fields`.
+pub fn decode_send(head: Fields) -> Result<Read, Refusal>
     ensures { result ≡ answer (send_record head) }
 {
     refuse_if((head.s > 63) | (head.v > 1), Refusal::FieldOutside)?;
-    let record = Record::Send {
+    let found = Found::Change(Record::Send {
         car: head.n,
         stop: head.s,
         reposition: head.v == 1,
-    };
-    Ok(Read::Accepted(record, 1))
+    });
+    Ok(Read { found, used: 1 })
 }
 
-// The mode of a code.
-fn mode_of(v: u32) -> Result<ServiceMode, Refusal>
-    ensures { result ≡ cond (ltb 4 v) (Err FieldOutside) (Ok (mode_of v)) }
-{
-    match v {
-        0 => Ok(ServiceMode::Normal),
-        1 => Ok(ServiceMode::Independent),
-        2 => Ok(ServiceMode::Inspection),
-        3 => Ok(ServiceMode::Manual),
-        4 => Ok(ServiceMode::OutOfService),
-        _ => Err(Refusal::FieldOutside),
-    }
-}
-
-pub fn decode_mode(head: Head) -> Result<Read, Refusal>
+pub fn decode_mode(head: Fields) -> Result<Read, Refusal>
     ensures { result ≡ answer (mode_record head) }
 {
     refuse_if(head.s != 0, Refusal::FieldOutside)?;
-    let mode = mode_of(head.v)?;
-    let record = Record::Mode { car: head.n, mode };
-    Ok(Read::Accepted(record, 1))
+    let mode = ServiceMode::try_from(head.v)?;
+    let found = Found::Change(Record::Mode { car: head.n, mode });
+    Ok(Read { found, used: 1 })
 }
 
-fn speed_of(v: u32, speed: f64) -> Option<f64>
-    ensures { result ≡ speed_of v speed }
-{
-    if v == 1 { Some(speed) } else { None }
-}
-
-pub fn decode_manual_speed(head: Head, words: &[u32]) -> Result<Read, Refusal>
+pub fn decode_manual_speed(head: Fields, words: &[u32]) -> Result<Read, Refusal>
     ensures { result ≡ answer (manual_speed_record head words.now) }
 {
     refuse_if(words.len() < 3, Refusal::CutShort)?;
@@ -64,12 +46,13 @@ pub fn decode_manual_speed(head: Head, words: &[u32]) -> Result<Read, Refusal>
     let float = float_at(words, 1);
     let float_outside = (head.v == 1) & outside_size(float, 1000.0);
     refuse_if(float_outside, Refusal::FloatOutside)?;
-    let speed = speed_of(head.v, float);
-    let record = Record::ManualSpeed { car: head.n, speed };
-    Ok(Read::Accepted(record, 3))
+    let speed = (head.v == 1).then_some(float);
+    let found = Found::Change(Record::ManualSpeed { car: head.n, speed });
+    Ok(Read { found, used: 3 })
 }
 
 // The door command of a code and its ticks, which none but HoldOpen has.
+// Stays: the four codes stand here and in `log_words::code_and_ticks`: these are the two directions, from the code and to it.
 fn command_of(s: u8, v: u32) -> Result<DoorCommand, Refusal>
     ensures { result ≡ cond (ltb 3 s || not (eqb s 2) && nonzero v) (Err FieldOutside) (Ok (command_of s v)) }
 {
@@ -82,73 +65,75 @@ fn command_of(s: u8, v: u32) -> Result<DoorCommand, Refusal>
     }
 }
 
-pub fn decode_door_command(head: Head) -> Result<Read, Refusal>
+pub fn decode_door_command(head: Fields) -> Result<Read, Refusal>
     ensures { result ≡ answer (door_command_record head) }
 {
     let command = command_of(head.s, head.v)?;
-    let record = Record::DoorCommand {
+    let found = Found::Change(Record::DoorCommand {
         car: head.n,
         command,
-    };
-    Ok(Read::Accepted(record, 1))
+    });
+    Ok(Read { found, used: 1 })
 }
 
-// Stays: here and below a function a kind: each has its own codes and fields.
-pub fn decode_hall_call(head: Head) -> Result<Read, Refusal>
+pub fn decode_hall_call(head: Fields) -> Result<Read, Refusal>
     ensures { result ≡ answer (hall_call_record head) }
 {
     let field_outside = (head.n != 0) | (head.s > 63) | (head.v > 1);
     refuse_if(field_outside, Refusal::FieldOutside)?;
-    let record = Record::HallCall {
+    let found = Found::Change(Record::HallCall {
         stop: head.s,
         down: head.v == 1,
-    };
-    Ok(Read::Accepted(record, 1))
+    });
+    Ok(Read { found, used: 1 })
 }
 
-pub fn decode_destination(head: Head) -> Result<Read, Refusal>
+pub fn decode_destination(head: Fields) -> Result<Read, Refusal>
     ensures { result ≡ answer (destination_record head) }
 {
     refuse_if((head.s > 63) | (head.v != 0), Refusal::FieldOutside)?;
-    let record = Record::Destination {
+    let found = Found::Change(Record::Destination {
         car: head.n,
         stop: head.s,
-    };
-    Ok(Read::Accepted(record, 1))
+    });
+    Ok(Read { found, used: 1 })
 }
 
-pub fn decode_enable(head: Head) -> Result<Read, Refusal>
+pub fn decode_enable(head: Fields) -> Result<Read, Refusal>
     ensures { result ≡ answer (enable_record head) }
 {
     refuse_if((head.s != 0) | (head.v > 1), Refusal::FieldOutside)?;
-    let record = Record::Enable {
+    let found = Found::Change(Record::Enable {
         car: head.n,
         enabled: head.v == 0,
-    };
-    Ok(Read::Accepted(record, 1))
+    });
+    Ok(Read { found, used: 1 })
 }
 
 // One of n, s and v is not 0.
-fn any_field_set(head: Head) -> bool
+fn any_field_set(head: Fields) -> bool
     ensures { result ≡ any_field_set head }
 {
     (head.n != 0) | (head.s != 0) | (head.v != 0)
 }
 
-pub fn decode_tick(head: Head, words: &[u32]) -> Result<Read, Refusal>
+pub fn decode_tick(head: Fields, words: &[u32]) -> Result<Read, Refusal>
     ensures { result ≡ answer (tick_record head words.now) }
 {
     refuse_if(words.len() < 3, Refusal::CutShort)?;
     refuse_if(any_field_set(head), Refusal::FieldOutside)?;
     let dt = float_at(words, 1);
     refuse_if(outside_above_zero(dt, 1.0), Refusal::FloatOutside)?;
-    Ok(Read::Tick { dt, used: 3 })
+    Ok(Read {
+        found: Found::Tick { dt },
+        used: 3,
+    })
 }
 
-pub fn decode_start(head: Head) -> Result<Read, Refusal>
+pub fn decode_start(head: Fields) -> Result<Read, Refusal>
     ensures { result ≡ answer (start_record head) }
 {
     refuse_if(any_field_set(head), Refusal::FieldOutside)?;
-    let record = Record::Start;
-    Ok(Read::Accepted(record, 1))
+    let found = Found::Change(Record::Start);
+    Ok(Read { found, used: 1 })
 }

@@ -24,11 +24,18 @@ pub enum Record {
     Start,
 }
 
-// What a tape begins with: a record and how many words it took, or a tick.
+// What a tape begins with, and how many words it takes.
 #[derive(Clone, Copy)]
-pub enum Read {
-    Accepted(Record, usize),
-    Tick { dt: f64, used: usize },
+pub struct Read {
+    pub found: Found,
+    pub used: usize,
+}
+
+// A record other than a tick, or a tick.
+#[derive(Clone, Copy)]
+pub enum Found {
+    Change(Record),
+    Tick { dt: f64 },
 }
 
 // A refusal where its condition holds.

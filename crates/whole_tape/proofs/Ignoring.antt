@@ -9,14 +9,15 @@ use lib.ListN.{length, get_or, length-append, get_or-append}
 use borrow.Author.Tests.{le-ltb, ne_eqb, ltb-false, eqb-false}
 use Rattle.world.specs.declared.refusal.Refusal.{Refusal}
 use Rattle.world.specs.declared.refusal.Refusal.TheVariants.{CutShort}
-use Rattle.fields.specs.declared.head.Head.{Head}
+use Rattle.layout.specs.declared.Fields.{Fields}
 use Rattle.tape_records.specs.declared.Read.{Read}
 use Rattle.std.specs.Prelude.{Result, Ok, Err}
 use Rattle.tape_records.specs.Answers.{Deed, answer}
 use Rattle.tape.specs.Tape.{Kind, kind_in, kinds, record_of, decoded}
 use Rattle.tape_loads.specs.LoadRecords.{serves_count, serves_outside, serves_to, line_fields_outside, line_floats_outside, line_kind_of, line_record, stop_record, car_record, rider_record}
 use Rattle.tape_orders.specs.OrderRecords.{manual_speed_record, tick_record}
-use Rattle.fields.specs.Fields.{head_of, float_at, raw_zero_at}
+use Rattle.layout.specs.Layout.{fields_of}
+use Rattle.fields.specs.Fields.{float_at, raw_zero_at}
 use Rattle.tape_loads.proofs.Serves.{count_small}
 use Rattle.whole_tape.specs.WholeTape.{Ignored, Longest}
 
@@ -66,19 +67,19 @@ module _ (ws vs : List ℕ) (need : ℕ) (long : need ≤ length ws) where
   serves_same zero h = refl
   serves_same (suc n) h = rw (serves_same n (omega arith), word_same (5 + n) (omega arith))
 
-  fields_same : (h : Head) → 5 ≤ need → line_fields_outside h (ws ++ vs) ≡ line_fields_outside h ws
+  fields_same : (h : Fields) → 5 ≤ need → line_fields_outside h (ws ++ vs) ≡ line_fields_outside h ws
   unfolding line_fields_outside
   fields_same h l = rw (zero_same 1 (omega arith), zero_same 3 (omega arith))
 
-  floats_same : (h : Head) → 5 ≤ need → line_floats_outside h (ws ++ vs) ≡ line_floats_outside h ws
+  floats_same : (h : Fields) → 5 ≤ need → line_floats_outside h (ws ++ vs) ≡ line_floats_outside h ws
   unfolding line_floats_outside
   floats_same h l = rw (float_same 1 (omega arith), float_same 3 (omega arith))
 
-  kind_same : (h : Head) → 5 ≤ need → line_kind_of h (ws ++ vs) ≡ line_kind_of h ws
+  kind_same : (h : Fields) → 5 ≤ need → line_kind_of h (ws ++ vs) ≡ line_kind_of h ws
   unfolding line_kind_of
   kind_same h l = rw (float_same 1 (omega arith), float_same 3 (omega arith))
 
-  line_same : (h : Head) → 5 + serves_count h.v ≤ need → answer (line_record h (ws ++ vs)) ≡ answer (line_record h ws)
+  line_same : (h : Fields) → 5 + serves_count h.v ≤ need → answer (line_record h (ws ++ vs)) ≡ answer (line_record h ws)
   unfolding line_record
   line_same h l =
       rw (
@@ -91,10 +92,10 @@ module _ (ws vs : List ℕ) (need : ℕ) (long : need ≤ length ws) where
         serves_same (serves_count h.v) l,
       )
 
-  stop_same : (h : Head) → 3 ≤ need → answer (stop_record h (ws ++ vs)) ≡ answer (stop_record h ws)
+  stop_same : (h : Fields) → 3 ≤ need → answer (stop_record h (ws ++ vs)) ≡ answer (stop_record h ws)
   stop_same h l = rw (none_short 3 l, enough 3 l, float_same 1 (omega arith))
 
-  car_same : (h : Head) → 15 ≤ need → answer (car_record h (ws ++ vs)) ≡ answer (car_record h ws)
+  car_same : (h : Fields) → 15 ≤ need → answer (car_record h (ws ++ vs)) ≡ answer (car_record h ws)
   car_same h l =
       rw (
         none_short 15 l,
@@ -109,18 +110,18 @@ module _ (ws vs : List ℕ) (need : ℕ) (long : need ≤ length ws) where
         word_same 14 (omega arith),
       )
 
-  rider_same : (h : Head) → 2 ≤ need → answer (rider_record h (ws ++ vs)) ≡ answer (rider_record h ws)
+  rider_same : (h : Fields) → 2 ≤ need → answer (rider_record h (ws ++ vs)) ≡ answer (rider_record h ws)
   rider_same h l = rw (none_short 2 l, enough 2 l, word_same 1 (omega arith))
 
-  speed_same : (h : Head) → 3 ≤ need → answer (manual_speed_record h (ws ++ vs)) ≡ answer (manual_speed_record h ws)
+  speed_same : (h : Fields) → 3 ≤ need → answer (manual_speed_record h (ws ++ vs)) ≡ answer (manual_speed_record h ws)
   speed_same h l = rw (none_short 3 l, enough 3 l, zero_same 1 (omega arith), float_same 1 (omega arith))
 
-  tick_same : (h : Head) → 3 ≤ need → answer (tick_record h (ws ++ vs)) ≡ answer (tick_record h ws)
+  tick_same : (h : Fields) → 3 ≤ need → answer (tick_record h (ws ++ vs)) ≡ answer (tick_record h ws)
   tick_same h l = rw (none_short 3 l, enough 3 l, float_same 1 (omega arith))
 
 module _ (ws vs : List ℕ) where
   -- a line whose count is outside its codes is refused before its body is looked at
-  line_by : (h : Head) → (serves_count h.v ≤ 64 → answer (line_record h (ws ++ vs)) ≡ answer (line_record h ws)) → answer (line_record h (ws ++ vs)) ≡ answer (line_record h ws)
+  line_by : (h : Fields) → (serves_count h.v ≤ 64 → answer (line_record h (ws ++ vs)) ≡ answer (line_record h ws)) → answer (line_record h (ws ++ vs)) ≡ answer (line_record h ws)
   unfolding line_record
   line_by h same = go (ltb 64 h.v && not (eqb h.v 65535)) refl
     where
@@ -140,7 +141,7 @@ module _ (ws vs : List ℕ) where
       go true e = absurd (u (cut e))
       go false e = same (ltb-false (length ws) k e)
 
-  line_uncut : (h : Head) → Uncut (answer (line_record h ws)) → answer (line_record h (ws ++ vs)) ≡ answer (line_record h ws)
+  line_uncut : (h : Fields) → Uncut (answer (line_record h ws)) → answer (line_record h (ws ++ vs)) ≡ answer (line_record h ws)
   unfolding line_record
   line_uncut h u = go (ltb 64 h.v && not (eqb h.v 65535)) refl
     where
@@ -150,7 +151,7 @@ module _ (ws vs : List ℕ) where
           let n = 5 + serves_count h.v in
           by_length n (answer (line_record h (ws ++ vs))) (answer (line_record h ws)) (λ t. rw (e, t)) (λ l. line_same ws vs n l h (omega arith)) u
 
-  record_uncut : (h : Head) → Uncut (record_of h ws) → record_of h (ws ++ vs) ≡ record_of h ws
+  record_uncut : (h : Fields) → Uncut (record_of h ws) → record_of h (ws ++ vs) ≡ record_of h ws
   unfolding record_of
   record_uncut h u =
       alike_in Uncut h.kind (kinds h (ws ++ vs)) (kinds h ws)
@@ -171,7 +172,7 @@ module _ (ws vs : List ℕ) where
       u
 
   -- 69 words are enough for all
-  record_long : 69 ≤ length ws → (h : Head) → record_of h (ws ++ vs) ≡ record_of h ws
+  record_long : 69 ≤ length ws → (h : Fields) → record_of h (ws ++ vs) ≡ record_of h ws
   unfolding record_of
   record_long long h =
       alike_in (λ _. Unit {0}) h.kind (kinds h (ws ++ vs)) (kinds h ws)
@@ -192,7 +193,7 @@ module _ (ws vs : List ℕ) where
       tt
 
   -- with a word at least, the head is the same
-  decoded_by : 0 < length ws → record_of (head_of (get_or ws 0 0)) (ws ++ vs) ≡ record_of (head_of (get_or ws 0 0)) ws → decoded (ws ++ vs) ≡ decoded ws
+  decoded_by : 0 < length ws → record_of (fields_of (get_or ws 0 0)) (ws ++ vs) ≡ record_of (fields_of (get_or ws 0 0)) ws → decoded (ws ++ vs) ≡ decoded ws
   unfolding decoded
   decoded_by h e = rw (none, some, word_same ws vs 1 (omega arith) 0 (omega arith)) e
     where
@@ -204,7 +205,7 @@ module _ (ws vs : List ℕ) where
 
 pub longest : Longest
 unfolding Longest
-longest ws vs long = decoded_by ws vs (omega arith) (record_long ws vs long (head_of (get_or ws 0 0)))
+longest ws vs long = decoded_by ws vs (omega arith) (record_long ws vs long (fields_of (get_or ws 0 0)))
 
 pub ignored : Ignored
 unfolding Ignored decoded
@@ -214,4 +215,4 @@ ignored ws vs u = go (eqb (length ws) 0) refl
     go true e = absurd (u (rw e))
     go false e =
         let n : (length ws ≡ 0) → ⊥ = eqb-false (length ws) 0 e in
-        decoded_by ws vs (omega arith) (record_uncut ws vs (head_of (get_or ws 0 0)) (rw e at u))
+        decoded_by ws vs (omega arith) (record_uncut ws vs (fields_of (get_or ws 0 0)) (rw e at u))

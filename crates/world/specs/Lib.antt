@@ -2,3 +2,4 @@ pub mod Tables
 pub mod World
 pub mod With
 pub mod Refusal
+pub mod Modes

@@ -4,11 +4,13 @@
 
 ghost use Rattle.std.specs.Prelude.{◌≡◌};
 ghost use Rattle.world.specs.Tables.{of_none, listed, pushed};
+ghost use Rattle.world.specs.Modes as Modes;
 
 pub mod empty; // a new car, the empty world
 pub mod refusal; // the refusals and their numbers
 pub mod with; // a car with some of its fields changed
 
+use crate::refusal::Refusal;
 use door::{DoorCommand, DoorState};
 
 // components/line.rs: the kind of a line.
@@ -121,6 +123,24 @@ pub enum ServiceMode {
     Inspection,
     Manual,
     OutOfService,
+}
+
+// The mode of a code.
+impl TryFrom<u32> for ServiceMode {
+    type Error = Refusal;
+
+    ghost try_from_gives = { Modes.ModeOf };
+
+    fn try_from(code: u32) -> Result<Self, Refusal> {
+        match code {
+            0 => Ok(ServiceMode::Normal),
+            1 => Ok(ServiceMode::Independent),
+            2 => Ok(ServiceMode::Inspection),
+            3 => Ok(ServiceMode::Manual),
+            4 => Ok(ServiceMode::OutOfService),
+            _ => Err(Refusal::FieldOutside),
+        }
+    }
 }
 
 // What a car's record says of it: its line, its motion and its door's times.

@@ -39,17 +39,17 @@ returns-in-Err c =
     let w = c.args.world in
     is_whole w _ _ (whole (goal.at.returns-in-Err c).Else-broken) c.decode.ensures (is_refused w _ c.in-Err.is c.refused-in-Err.ensures)
 
-pub returns-in-Ok-Accepted : goal.returns-in-Ok-Accepted
-returns-in-Ok-Accepted c =
+pub returns-in-Change : goal.returns-in-Change
+returns-in-Change c =
     let w = c.args.world in
-    is_whole w _ _ (whole (goal.at.returns-in-Ok-Accepted c).Else-broken) c.decode.ensures
-    (is_made w _ (rw c.in-Ok-Accepted.field-0-is at c.in-Ok-Accepted.is) (c.answered.ensures _))
+    is_whole w _ _ (whole (goal.at.returns-in-Change c).Else-broken) c.decode.ensures
+    (is_made w _ c.in-Ok.is c.in-Change.is (c.answered.ensures _))
 
 pub returns-in-Err-taken : goal.returns-in-Err-taken
 returns-in-Err-taken c =
     let w = c.args.world in
     is_whole w _ _ (whole (goal.at.returns-in-Err-taken c).Else-broken) c.decode.ensures
-    (is_made w _ (rw c.in-Ok-Tick.field-0-is at c.in-Ok-Tick.is) (tick_refused w _ _ _ (sym c.take_tick-taken.ensures ∙ c.in-Err-taken.is) c.refused-in-Err-taken.ensures))
+    (is_made w _ c.in-Ok.is c.in-Tick.is (tick_refused w _ _ _ (sym c.take_tick-taken.ensures ∙ c.in-Err-taken.is) c.refused-in-Err-taken.ensures))
 
 -- ---- the moves
 
@@ -66,33 +66,33 @@ loop-i-preserved c =
     elim c.if-is_trip.branch [
       | then-is_trip+then-result u ↦
           let look =
-          looked c.in-Ok-Tick.dt s.w s.i trip.result _ u.leader_of-leader.result u.landing-result.result u.if-asks_work.lamps trip.ensures
+          looked c.in-Tick.dt s.w s.i trip.result _ u.leader_of-leader.result u.landing-result.result u.if-asks_work.lamps trip.ensures
           (rw c.is_trip.ensures at u.if-is_trip.true) (ap (λ (l : Line). l.kind) u.line_at-kind.ensures) u.leader_of-leader.ensures u.landing-result.ensures
           (elim u.if-asks_work.branch [
             | then-asks_work z ↦ inr (rw u.asks_work.ensures at z.if-asks_work.true, z.lamps-is ∙ z.work_of-lamps.ensures)
             | else-asks_work z ↦ inl (rw u.asks_work.ensures at z.if-asks_work.false, z.lamps-is)
           ]) in (
             so_far,
-            comes_in c.in-Ok-Tick.dt _ s.w c.if-is_trip.w _ s.log _ c.if-is_trip.log s.i trip.result _ u.landing-result.result u.if-asks_work.lamps c.new-sort.result u.tell-moves.result _ _ u.distance_by.result u.come.result s.invariant.1 look
+            comes_in c.in-Tick.dt _ s.w c.if-is_trip.w _ s.log _ c.if-is_trip.log s.i trip.result _ u.landing-result.result u.if-asks_work.lamps c.new-sort.result u.tell-moves.result _ _ u.distance_by.result u.come.result s.invariant.1 look
                 u.tell-moves.ensures refl refl u.distance_by.ensures u.if-result.true u.come.ensures u.w-is u.log-is,
             s.invariant.2,
           )
       | then-is_trip+else-result u ↦
           let look =
-          looked c.in-Ok-Tick.dt s.w s.i trip.result _ u.leader_of-leader.result u.landing-result.result u.if-asks_work.lamps trip.ensures
+          looked c.in-Tick.dt s.w s.i trip.result _ u.leader_of-leader.result u.landing-result.result u.if-asks_work.lamps trip.ensures
           (rw c.is_trip.ensures at u.if-is_trip.true) (ap (λ (l : Line). l.kind) u.line_at-kind.ensures) u.leader_of-leader.ensures u.landing-result.ensures
           (elim u.if-asks_work.branch [
             | then-asks_work z ↦ inr (rw u.asks_work.ensures at z.if-asks_work.true, z.lamps-is ∙ z.work_of-lamps.ensures)
             | else-asks_work z ↦ inl (rw u.asks_work.ensures at z.if-asks_work.false, z.lamps-is)
           ]) in (
             so_far,
-            goes_on_lem c.in-Ok-Tick.dt _ s.w c.if-is_trip.w _ s.log _ c.if-is_trip.log s.i trip.result _ u.landing-result.result u.if-asks_work.lamps c.new-sort.result u.tell-moves.result _ _ u.distance_by.result s.invariant.1 look c.new-sort.ensures
+            goes_on_lem c.in-Tick.dt _ s.w c.if-is_trip.w _ s.log _ c.if-is_trip.log s.i trip.result _ u.landing-result.result u.if-asks_work.lamps c.new-sort.result u.tell-moves.result _ _ u.distance_by.result s.invariant.1 look c.new-sort.ensures
                 u.tell-moves.ensures refl refl u.distance_by.ensures u.if-result.false u.w-is u.log-is,
             s.invariant.2,
           )
       | else-is_trip u ↦ (
         so_far,
-        stays c.in-Ok-Tick.dt _ s.w c.if-is_trip.w _ s.log c.if-is_trip.log s.i trip.result s.invariant.1 trip.ensures (rw c.is_trip.ensures at u.if-is_trip.false) u.w-is u.log-is,
+        stays c.in-Tick.dt _ s.w c.if-is_trip.w _ s.log c.if-is_trip.log s.i trip.result s.invariant.1 trip.ensures (rw c.is_trip.ensures at u.if-is_trip.false) u.w-is u.log-is,
         s.invariant.2,
       )
     ]
@@ -131,8 +131,8 @@ returns c =
     let f : t.i ≡ min s.w.cars.count 16 = omega (arith, n, c.loop-i-2-test.false, t.invariant.0, cars_kept k) in
     let d : c.min-cars.result ≡ min s.w.cars.count 16 = omega (arith, n, cars_kept k) in
     let r = ended (runs_at t.invariant.1 f) d (calls_kept t.invariant.1) c.clear_hall_calls-w.ensures in
-    let x = doored_after c.in-Ok-Tick.dt w k r.0 r.1 in
+    let x = doored_after c.in-Tick.dt w k r.0 r.1 in
     let all = told_also c.emit.ensures x.1 in
     is_whole w _ _ (whole (goal.at.returns c).Else-broken) c.decode.ensures
-    (is_made w _ (rw c.in-Ok-Tick.field-0-is at c.in-Ok-Tick.is) (tick_taken_lem w _ _ _ (sym c.take_tick-taken.ensures ∙ c.in_default.is) refl
+    (is_made w _ c.in-Ok.is c.in-Tick.is (tick_taken_lem w _ _ _ (sym c.take_tick-taken.ensures ∙ c.in_default.is) refl
     (ap ticked x.0) (search (rules, all.wrote, all.slice))))
