@@ -9,7 +9,7 @@ use std::fmt;
 use std::io::{BufRead, BufReader};
 use world::World;
 use world::empty::empty;
-use world::refusal::{Refusal, number};
+use world::refusal::Refusal;
 
 // What a tape ends in whose records are all accepted: the words of the last one, and the world.
 #[derive(Drop)]
@@ -47,7 +47,7 @@ impl fmt::Display for Refused {
         write!(
             f,
             "refused {} at record {}",
-            number(self.refusal),
+            u32::from(self.refusal),
             self.record
         )
     }

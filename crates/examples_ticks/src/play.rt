@@ -4,7 +4,6 @@ use record::record;
 use std::io;
 use std::io::Write;
 use world::empty::empty;
-use world::refusal::number;
 
 // Record after record from an empty world, up to a refusal. A tick writes a word at least, and no other record writes one.
 #[tactic(auto, using(conditions::proofs::Taking::uses_some, conditions::proofs::Taking::uses_within, conditions::proofs::Taking::writes_within, conditions::proofs::Taking::same_length, conditions::proofs::Taking::writes_all))]
@@ -15,7 +14,7 @@ pub(crate) fn play<W: Write>(out: &mut W, log: &mut [u32], tape: &[u32]) -> io::
         let recorded = record(world, rest, log);
         world = recorded.world;
         match recorded.answer {
-            Err(refusal) => return writeln!(out, "refused {}", number(refusal)),
+            Err(refusal) => return writeln!(out, "refused {}", u32::from(refusal)),
             Ok(accepted) => {
                 if 0 < accepted.written {
                     let words = &log[..accepted.written];

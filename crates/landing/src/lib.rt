@@ -8,7 +8,9 @@ use float::{EPSILON, abs};
 use leader::loop_leader_pos;
 use lookup::stops::stop_position;
 use motion::cyclic::wrap_position;
-use motion::movement::{MovementResult, headway_clamp_target, tick_movement, tick_movement_cyclic};
+use motion::movement::{
+    MovementResult, headway_clamp_target, moved_to, tick_movement, tick_movement_cyclic,
+};
 use steps::is_inspection;
 use trips::Trip;
 use velocity::fp::fma;
@@ -77,16 +79,6 @@ fn result_by(
     }
 }
 
-fn driven_to(position: f64, velocity: f64) -> MovementResult
-    ensures { result ≡ Landing.driven_to position velocity }
-{
-    MovementResult {
-        position,
-        velocity,
-        arrived: false,
-    }
-}
-
 // The velocity of a landing that was pulled back to `clamped`.
 fn held_velocity(clamped: f64, wrapped: f64, velocity: f64) -> f64
     ensures { result ≡ Landing.held_velocity clamped wrapped velocity }
@@ -110,10 +102,10 @@ fn behind(
     ensures { result ≡ Landing.behind leader old wrapped velocity headway circumference }
 {
     match leader {
-        None => driven_to(wrapped, velocity),
+        None => moved_to(wrapped, velocity),
         Some(lp) => {
             let clamped = headway_clamp_target(old, lp, wrapped, headway, circumference);
-            driven_to(clamped, held_velocity(clamped, wrapped, velocity))
+            moved_to(clamped, held_velocity(clamped, wrapped, velocity))
         }
     }
 }
@@ -129,7 +121,7 @@ fn driven_by(
     ensures { result ≡ Landing.driven_by kind leader old raw velocity }
 {
     match kind {
-        LineKind::Linear => driven_to(raw, velocity),
+        LineKind::Linear => moved_to(raw, velocity),
         LineKind::Loop {
             circumference,
             min_headway,
@@ -179,7 +171,7 @@ pub fn landing(
 {
     let m = car.motion;
     match trip {
-        Trip::Rests => driven_to(m.position, m.velocity),
+        Trip::Rests => moved_to(m.position, m.velocity),
         Trip::Drives => driven(kind, leader, car, dt),
         Trip::GoesTo(s) | Trip::Repositions(s) => {
             result_by(kind, leader, m, max_speed(car), stop_position(stops, s), dt)

@@ -35,12 +35,11 @@ pub fn loop_leader_pos(
 ) -> Option<f64>
     ensures { result ≡ loop_leader_pos cars.now me line pos circumference }
 {
-    let n = cars.count.min(16);
     // Stays: in place of these an Option would be copied, and a copy of an enum waits for its padding.
     let mut found = false;
     let mut nearest: f64 = 0.0;
     let mut position: f64 = 0.0;
-    for (i, car) in cars.items[..n].iter().enumerate() {
+    for (i, car) in cars.as_slice().iter().enumerate() {
         if is_other(*car, me, line, i) {
             let distance = forward_distance(pos, car.motion.position, circumference);
             if is_nearer(found, nearest, distance) {
@@ -50,7 +49,7 @@ pub fn loop_leader_pos(
             }
         }
     }
-    if found { Some(position) } else { None }
+    found.then_some(position)
 }
 
 // Carries the claim that the definition gives the leader.

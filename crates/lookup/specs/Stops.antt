@@ -1,5 +1,5 @@
 -- Stop look-ups: world.rs and dispatch/mod.rs. A count above its table is taken as the table's size.
-use Rattle.std.specs.Prelude.{Bool, false, cond, List, ℕ, zero, suc, ◌+◌, min, ltb, get_or, replicate, Float}
+use Rattle.std.specs.Prelude.{Bool, cond, List, ℕ, zero, suc, ◌+◌, min, ltb, get_or, Float}
 use Rattle.std.specs.Float.{binary64}
 use Rattle.std.specs.Float.Ieee.{of_bits, sub, lt}
 use Rattle.float.specs.Float.{abs}

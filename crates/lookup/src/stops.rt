@@ -13,10 +13,7 @@ const STOP_POSITION_EPSILON: f64 = 1e-6;
 pub fn stop_position(stops: &[f64; 64], s: u8) -> f64
     ensures { result ≡ stop_at stops.now s }
 {
-    match stops.get(s as usize) {
-        Some(position) => *position,
-        None => f64::NAN,
-    }
+    stops.get(s as usize).copied().unwrap_or(f64::NAN)
 }
 
 // Whether a stop stands at a position.
@@ -28,23 +25,19 @@ fn stands_at(stop: f64, position: f64) -> bool
 }
 
 // world.rs, find_stop_at_position
-#[tactic(auto, using(crate::proofs::Standing::standing), unfolding(crate::specs::Stops::find_stop_at_position))]
 pub fn find_stop_at_position(stops: &Stops, position: f64) -> Option<u8>
     ensures { result ≡ find_stop_at_position stops.now position }
 {
-    let n = stops.count.min(64);
-    for (s, stop) in stops.items[..n].iter().enumerate() {
-        if stands_at(*stop, position) {
-            return Some(s as u8);
-        }
-    }
-    None
+    stops
+        .as_slice()
+        .iter()
+        .position(|stop| stands_at(*stop, position))
+        .map(|s| s as u8)
 }
 
 // world.rs, find_stop_at_position_in
 // Stays: beside the look-up above, as in the Rust. One function of both would take the candidates, all numbers or a list's, as a type parameter with a
-// contract of its own, to share a loop of three lines.
-#[tactic(auto, using(crate::proofs::Standing::standing), unfolding(crate::specs::Stops::find_stop_at_position_in))]
+// contract of its own, to share a chain of three calls.
 pub fn find_stop_at_position_in(
     stops: &[f64; 64],
     position: f64,
@@ -52,13 +45,11 @@ pub fn find_stop_at_position_in(
 ) -> Option<u8>
     ensures { result ≡ find_stop_at_position_in stops.now position serves.now }
 {
-    let n = serves.count.min(64);
-    for &s in &serves.items[..n] {
-        if stands_at(stop_position(stops, s), position) {
-            return Some(s);
-        }
-    }
-    None
+    serves
+        .as_slice()
+        .iter()
+        .copied()
+        .find(|s| stands_at(stop_position(stops, *s), position))
 }
 
 // dispatch/mod.rs, elevator_line_serves

@@ -17,6 +17,10 @@ braking_distance velocity deceleration =
 abbrev pub arrived_at : Float → MovementResult
 arrived_at target = record { position = target; velocity = zero; arrived = true }
 
+-- its answer where the car has not arrived
+abbrev pub moved_to : Float → Float → MovementResult
+moved_to position velocity = record { position = position; velocity = velocity; arrived = false }
+
 -- movement.rs, tick_movement
 unfoldable pub tick_movement : Float → Float → Float → Float → Float → Float → Float → MovementResult
 tick_movement position velocity targetPosition max_speed_of acceleration deceleration dt =

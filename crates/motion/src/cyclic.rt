@@ -5,7 +5,7 @@ ghost use Rattle.motion.specs.Cyclic as Cyclic;
 use float::{is_finite, min, rem_euclid};
 
 // Whether there is no circle.
-pub(crate) fn degenerate(circumference: f64) -> bool
+pub fn degenerate(circumference: f64) -> bool
     ensures { result ≡ Cyclic.degenerate circumference }
 {
     !is_finite(circumference) | (circumference <= 0.0)

@@ -39,6 +39,17 @@ fn arrived_at(target: f64) -> MovementResult
     }
 }
 
+// What it gives where the car has not arrived.
+pub fn moved_to(position: f64, velocity: f64) -> MovementResult
+    ensures { result ≡ Movement.moved_to position velocity }
+{
+    MovementResult {
+        position,
+        velocity,
+        arrived: false,
+    }
+}
+
 // One tick towards a target on a line.
 // Stays: here and below the parameters are the Rust's, in its order, as the exported functions have them.
 #[tactic(auto, unfolding(crate::specs::Movement::tick_movement))]
@@ -72,11 +83,7 @@ pub fn tick_movement(
     if (abs(new_displacement) < EPSILON) | (abs(signum(new_displacement) - sign) > EPSILON) {
         return arrived_at(target_position);
     }
-    MovementResult {
-        position: new_pos,
-        velocity: new_velocity,
-        arrived: false,
-    }
+    moved_to(new_pos, new_velocity)
 }
 
 // One tick towards a target on a loop, forward only, the position wrapped into [0, circumference).
@@ -94,11 +101,7 @@ pub fn tick_movement_cyclic(
     ensures { result ≡ Movement.tick_movement_cyclic position velocity target_position max_speed acceleration deceleration dt circumference }
 {
     if degenerate(circumference) {
-        return MovementResult {
-            position,
-            velocity: 0.0,
-            arrived: false,
-        };
+        return moved_to(position, 0.0);
     }
     let pos = wrap_position(position, circumference);
     let target = wrap_position(target_position, circumference);
@@ -116,11 +119,7 @@ pub fn tick_movement_cyclic(
         return arrived_at(target);
     }
     let new_pos = wrap_position(pos + linear.position, circumference);
-    MovementResult {
-        position: new_pos,
-        velocity: linear.velocity,
-        arrived: false,
-    }
+    moved_to(new_pos, linear.velocity)
 }
 
 // The target of a trailing car: the intended one, or `min_headway` behind its leader where that comes first.

@@ -6,7 +6,7 @@ ghost use Rattle.next_stop.specs.NextStop.{ahead_of, nearer, stop_of, loop_next_
 
 use float::{EPSILON, is_finite};
 use lookup::stops::stop_position;
-use motion::cyclic::forward_distance;
+use motion::cyclic::{degenerate, forward_distance};
 use world::{Line, LineKind, Table};
 
 // How far a stop is ahead on a loop; the whole circle where the car stands at it.
@@ -45,12 +45,11 @@ pub fn loop_next_stop_forward(
 ) -> Option<u8>
     ensures { result ≡ loop_next_stop_forward stops.now circumference serves.now position }
 {
-    if !is_finite(position) | (!is_finite(circumference) | (circumference <= 0.0)) {
+    if !is_finite(position) | degenerate(circumference) {
         return None;
     }
-    let n = serves.count.min(64);
     let mut best = None;
-    for &s in &serves.items[..n] {
+    for &s in serves.as_slice() {
         let distance = ahead_of(circumference, position, stop_position(stops, s));
         best = nearer_of(best, distance, s);
     }

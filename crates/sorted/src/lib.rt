@@ -61,7 +61,7 @@ fn insert(order: &mut [u8; 64], stops: &[f64; 64], i: usize)
 pub fn sorted_stops(stops: &Stops) -> [u8; 64]
     ensures { result ≡ sorted_table stops.now.items (min stops.now.count 64) }
 {
-    let n = stops.count.min(64);
+    let n = stops.as_slice().len();
     let mut order = [0u8; 64];
     for i in 0..n {
         insert(&mut order, &stops.items, i);

@@ -33,8 +33,10 @@ pub enum Refusal {
 }
 
 // The paper's number.
-pub fn number(refusal: Refusal) -> u32
-    ensures { result ≡ refusal_number refusal }
-{
-    refusal as u32
+impl From<Refusal> for u32 {
+    ghost from_gives = { λ refusal number. number ≡ refusal_number refusal };
+
+    fn from(refusal: Refusal) -> u32 {
+        refusal as u32
+    }
 }

@@ -5,4 +5,4 @@ use Rattle.study_text.proofs.put_refused.Goals as goal
 
 pub returns : goal.returns
 unfolding refused_line
-returns c = rw (← c.number.ensures, ← c.from.ensures) (told_also c.put_field.ensures c.put.ensures)
+returns c = rw (← c.from.ensures, ← c.from-2.ensures) (told_also c.put_field.ensures c.put.ensures)
