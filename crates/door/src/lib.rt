@@ -2,7 +2,7 @@
 #![tactic(auto)]
 
 ghost use Rattle.std.specs.Prelude.{◌≡◌, true};
-ghost use Rattle.door.specs.Door.{request_open, tick, is_open, is_closed};
+ghost use Rattle.door.specs.Door.{request_open, one_less, tick, is_open, is_closed};
 ghost use Rattle.door.specs.Phases.{PhasesEnd};
 
 // Where a door stands, with the ticks left there and those of the phases to come.
@@ -61,7 +61,7 @@ impl DoorState {
     pub fn is_closed(self) -> bool
         ensures { result ≡ is_closed self }
     {
-        matches!(self, DoorState::Closed)
+        self == DoorState::Closed
     }
 
     // Begins to open: the closing will take as long as the opening.
@@ -75,52 +75,58 @@ impl DoorState {
         }
     }
 
+    // One tick fewer remains of its phase.
+    // Stays: three arms; one pattern of the three was tried, and what its `&mut` leaves in the door is not known where they join.
+    fn count_down(&mut self)
+        ensures { self.new ≡ one_less self.old }
+    {
+        match self {
+            DoorState::Closed => {}
+            DoorState::Opening {
+                ticks_remaining,
+                ..
+            } => *ticks_remaining = ticks_remaining.saturating_sub(1),
+            DoorState::Open {
+                ticks_remaining,
+                ..
+            } => *ticks_remaining = ticks_remaining.saturating_sub(1),
+            DoorState::Closing { ticks_remaining } => *ticks_remaining =
+                ticks_remaining.saturating_sub(1),
+        }
+    }
+
     // One tick, and the transition that it made. A phase with 0 or 1 ticks remaining ends.
     pub fn tick(self) -> Ticked
         ensures { result ≡ tick self }
     {
         let mut door = self;
-        let transition = match &mut door {
-            DoorState::Closed => DoorTransition::None,
+        door.count_down();
+        let transition = match door {
             DoorState::Opening {
-                ticks_remaining,
+                ticks_remaining: 0,
                 open_duration,
                 close_duration,
             } => {
-                if *ticks_remaining <= 1 {
-                    door = DoorState::Open {
-                        ticks_remaining: *open_duration,
-                        close_duration: *close_duration,
-                    };
-                    DoorTransition::FinishedOpening
-                } else {
-                    *ticks_remaining -= 1;
-                    DoorTransition::None
-                }
+                door = DoorState::Open {
+                    ticks_remaining: open_duration,
+                    close_duration,
+                };
+                DoorTransition::FinishedOpening
             }
             DoorState::Open {
-                ticks_remaining,
+                ticks_remaining: 0,
                 close_duration,
             } => {
-                if *ticks_remaining <= 1 {
-                    door = DoorState::Closing {
-                        ticks_remaining: *close_duration,
-                    };
-                    DoorTransition::FinishedOpen
-                } else {
-                    *ticks_remaining -= 1;
-                    DoorTransition::None
-                }
+                door = DoorState::Closing {
+                    ticks_remaining: close_duration,
+                };
+                DoorTransition::FinishedOpen
             }
-            DoorState::Closing { ticks_remaining } => {
-                if *ticks_remaining <= 1 {
-                    door = DoorState::Closed;
-                    DoorTransition::FinishedClosing
-                } else {
-                    *ticks_remaining -= 1;
-                    DoorTransition::None
-                }
+            DoorState::Closing { ticks_remaining: 0 } => {
+                door = DoorState::Closed;
+                DoorTransition::FinishedClosing
             }
+            _ => DoorTransition::None,
         };
         Ticked { door, transition }
     }

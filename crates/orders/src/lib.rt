@@ -8,7 +8,6 @@ use changes::{Changed, ordered};
 use sound_rows::unloaded;
 use tape_records::refuse_if;
 use world::refusal::Refusal;
-use world::with::with_orders;
 use world::{Car, ElevatorPhase, World};
 
 fn can_go(phase: ElevatorPhase) -> bool
@@ -20,14 +19,16 @@ fn can_go(phase: ElevatorPhase) -> bool
 fn sent(car: Car, stop: u8, reposition: bool) -> Car
     ensures { result ≡ Orders.sent car stop reposition }
 {
-    let mode = car.service_mode;
-    let speed = car.manual_target_velocity;
-    let phase = if reposition {
-        ElevatorPhase::Repositioning(stop)
-    } else {
-        ElevatorPhase::MovingToStop(stop)
-    };
-    with_orders(car, phase, mode, reposition, Some(stop), speed)
+    Car {
+        phase: if reposition {
+            ElevatorPhase::Repositioning(stop)
+        } else {
+            ElevatorPhase::MovingToStop(stop)
+        },
+        repositioning: reposition,
+        target_stop: Some(stop),
+        ..car
+    }
 }
 
 // Kind 5.

@@ -42,11 +42,11 @@ fn rider_phase_unloaded(cars: usize, phase: RiderPhase) -> bool
     }
 }
 
-// Whether one of the numbers is not loaded.
+// Whether one of the numbers is not loaded. No test ends the search early: so it goes over several numbers at a time.
+// Stays: beside `one_of` of `sound`, of any items and test: here it would be public, and so without the `requires` that its test needs.
 fn one_unloaded(numbers: &[u8], loaded: usize) -> bool
     ensures { result ≡ fold (λ found n. found || Rows.unloaded loaded n) false numbers.now }
 {
-    // no test ends the search early: so it goes over several numbers at a time
     numbers
         .iter()
         .fold(false, |found, n| found | unloaded(loaded, *n))
@@ -57,11 +57,11 @@ fn one_unloaded(numbers: &[u8], loaded: usize) -> bool
 pub fn line_broken(stops: usize, line: Line) -> bool
     ensures { result ≡ Rows.line_broken stops line }
 {
-    let count = line.serves.stops.count;
-    if 64 < count {
+    let listed = line.serves.stops;
+    if 64 < listed.count {
         return true;
     }
-    one_unloaded(&line.serves.stops.items[..count], stops)
+    one_unloaded(listed.as_slice(), stops)
 }
 
 // Whether a car has a queue, a counter or a number that records never make.
@@ -69,8 +69,8 @@ pub fn line_broken(stops: usize, line: Line) -> bool
 pub fn car_broken(lines: usize, stops: usize, car: Car) -> bool
     ensures { result ≡ Rows.car_broken lines stops car }
 {
-    let count = car.destination_queue.count;
-    if 8 < count {
+    let queue = car.destination_queue;
+    if 8 < queue.count {
         return true;
     }
     (8 < car.door_command_queue.count)
@@ -78,7 +78,7 @@ pub fn car_broken(lines: usize, stops: usize, car: Car) -> bool
         | unloaded(lines, car.line)
         | phase_unloaded(stops, car.phase)
         | option_unloaded(stops, car.target_stop)
-        | one_unloaded(&car.destination_queue.items[..count], stops)
+        | one_unloaded(queue.as_slice(), stops)
 }
 
 // Whether a rider names a stop or a car that is not loaded.
