@@ -131,7 +131,7 @@ returns c =
     let k = moves_at s.invariant.1 (sym e) in
     let f : t.i ≡ min s.w.cars.count 16 = omega (arith, n, c.loop-i-2-test.false, t.invariant.0, cars_kept k) in
     let d : c.min-cars.result ≡ min s.w.cars.count 16 = omega (arith, n, cars_kept k) in
-    let r = ended (runs_at t.invariant.1 f) d (calls_kept t.invariant.1) c.clear_hall_calls-calls.ensures in
+    let r = ended (runs_at t.invariant.1 f) d (calls_kept t.invariant.1) c.clear_hall_calls-w.ensures in
     let x = doored_after c.in-Ok-Tick.dt w k r.0 r.1 in
     let all = told_also c.emit.ensures x.1 in
     is_whole w _ _ (whole (goal.at.returns c).Else-broken) c.decode.ensures
