@@ -2,7 +2,7 @@
 use mathlib.Core.Path.{◌≡◌, refl, ap, ◌∙◌}
 use mathlib.Core.Bool.{Bool, true, false, cond}
 use Prim.Native.Nat.{ℕ, zero, suc, ◌+◌, ◌-◌, ◌*◌, ◌/◌, ◌%◌, ◌<◌, ◌≤◌, ◌^◌}
-use native.Mathlib.Nat.{div-add-mod', mod-lt, mul-le-mul_right, div-lt_iff_lt-mul, pow-suc, add-mul, zero-mul, one-mul, div-eq_of_lt, mod-eq_of_lt}
+use native.Mathlib.Nat.{div-add-mod', mod-lt, mul-le-mul_right, div-lt_iff_lt-mul, pow-suc, add-mul, zero-mul, one-mul, div-eq_of_lt, mod-eq_of_lt, pow-succ', div-div-eq-div-mul}
 use native.Mathlib.Omega.{arith}
 use lib.Dec.{eqb}
 use lib.Pow.{pow_pos, pow-add, pow_mono, pow-lt}
@@ -25,6 +25,11 @@ bit_held calls s h =
     let one : q % 2 ≡ 1 = eqb-true (q % 2) 1 h in
     let least : 1 * 2 ^ s ≤ q * 2 ^ s = mul-le-mul_right (2 ^ s) (omega arith) in
     omega (arith, div-add-mod' calls (2 ^ s), one-mul (2 ^ s))
+
+-- the bits above the lowest are those of the half
+pub called_half : (calls s : ℕ) → called calls (suc s) ≡ called (calls / 2) s
+unfolding called
+called_half calls s = rw (div-div-eq-div-mul, ← pow-succ')
 
 -- a higher power is an even number of a lower one
 pub pow_above : (n s : ℕ) → s < n → 2 ^ n ≡ 2 ^ (n - s - 1) * 2 * 2 ^ s

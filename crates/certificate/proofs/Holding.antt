@@ -1,13 +1,13 @@
 -- What a car and the joined log hold on the way, and that a run of the cars keeps it. Assumes nothing.
 use mathlib.Core.Path.{◌≡◌, refl, ◌∙◌}
-use mathlib.Core.Bool.{Bool, true, false}
+use mathlib.Core.Bool.{Bool, false}
 use mathlib.Core.List.{List, ◌++◌, append-nil, append_assoc}
 use Prim.Native.Nat.{ℕ, suc, ◌<◌, ◌≤◌, min}
 use native.Mathlib.Omega.{arith}
-use lib.Dec.{eqb}
 use lib.ListN.{length, set, length-set}
 use lib.Seq.{get_or-set_same, get_or-set_other}
-use borrow.Author.Tests.{eqb-true, eqb-false}
+use Rattle.std.proofs.lemmas.Bool.{cases_eq}
+use mathlib.Core.Logic.{⊎_elim}
 use Rattle.world.specs.World.{car_at, no_car}
 use Rattle.world.specs.declared.World.{World}
 use Rattle.world.specs.declared.Car.{Car}
@@ -29,14 +29,6 @@ pub record Summed (cs : List Car) (count total : ℕ) (log : List ℕ) : Type 0 
   pub full : length cs ≡ 16
   pub cars : total ≡ sum_to (λ i. (car_at cs i).move_count) count
   pub words : total ≡ moves_in log
-
--- by cases on whether two numbers are one
-pub same? : {P : Type 0} (i j : ℕ) → (j ≡ i → P) → ((j ≡ i → ⊥) → P) → P
-same? {P} i j p q = go (eqb j i) refl
-  where
-    go : (b : Bool) → eqb j i ≡ b → P
-    go true e = p (eqb-true j i e)
-    go false e = q (eqb-false j i e)
 
 -- words that say nothing of the car, which stays as it is
 pub held_same : {n : ℕ} {cs ds : List Car} {count : ℕ} {log ws : List ℕ} → Held n cs count log → car_at ds n ≡ car_at cs n → Silent n ws
@@ -61,9 +53,10 @@ pub held_step : {n : ℕ} {cs : List Car} {count : ℕ} {log ws : List ℕ} (i :
     → (n ≡ i → Fit (car_at cs i) (open_after i false log) → Good i (open_after i false log) c ws) → ((n ≡ i → ⊥) → Silent n ws)
     → Held n (set cs i c) count (log ++ ws)
 held_step {n} {cs} {count} {log} {ws} i c h inside l own other =
-    same? i n
+    ⊎_elim
     (λ (e : n ≡ i). let k : Held i cs count log = rw e at h in rw e (held_own k inside l (own e (k.fit l))))
     (λ (e : n ≡ i → ⊥). held_same h (get_or-set_other cs i n c no_car e) (other e))
+    (cases_eq n i)
 
 -- ---- a run of the cars, whatever their turn is, and a relation of the car before to the car after
 
@@ -102,9 +95,10 @@ module _
       held = rw (← append_assoc log r.words s.words)
           (held_step i s.car h.held inside loaded (λ e f. good r.world i ajar low f) (silent r.world i n low));
       keeps = then (car_at w.cars.items n) (car_at r.world.cars.items n) (car_at (set r.world.cars.items i s.car) n) h.keeps
-          (same? i n
+          (⊎_elim
           (λ (e : n ≡ i). rw (e, get_or-set_same r.world.cars.items i s.car no_car inside) (keep r.world i ajar low (rw e at (h.held.fit (omega (arith, loaded, e))))))
-          (λ (e : n ≡ i → ⊥). rw (get_or-set_other r.world.cars.items i n s.car no_car e) (same (car_at r.world.cars.items n))));
+          (λ (e : n ≡ i → ⊥). rw (get_or-set_other r.world.cars.items i n s.car no_car e) (same (car_at r.world.cars.items n)))
+          (cases_eq n i));
     }
       where
         r : Run

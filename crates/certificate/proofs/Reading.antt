@@ -1,11 +1,9 @@
 -- What the record call's first checks say: the record read from a head word, and the counters of a world that is not broken. Assumes nothing.
 use mathlib.Core.Path.{◌≡◌, refl, sym, ◌∙◌}
-use mathlib.Core.Bool.{Bool, true, false, ◌&&◌, ◌||◌, and-true}
+use mathlib.Core.Bool.{true, false, ◌&&◌, ◌||◌, and-true}
 use mathlib.Core.List.{List, [], ◌∷◌}
-use Prim.Native.Nat.{ℕ, zero, suc, ◌^◌, ◌<◌, ◌≤◌}
-use native.Mathlib.Nat.{eq-or-lt_of_le}
+use Prim.Native.Nat.{ℕ, ◌^◌, ◌<◌, ◌≤◌}
 use native.Mathlib.Omega.{arith}
-use mathlib.Core.Logic.{⊎_elim}
 use lib.Dec.{eqb, leb, ltb}
 use lib.ListN.{length, get_or}
 use borrow.Author.Tests.{eqb-true, eq-eqb, leb-false}
@@ -31,6 +29,7 @@ use Rattle.tape_records.specs.declared.Record.{Record}
 use Rattle.tick.specs.Counters.{Low}
 use Rattle.laws.proofs.Choices.{both, cases}
 use Rattle.world.proofs.Checks.{unless_has}
+use Rattle.sound_rows.proofs.AnyTo.{none_of}
 
 -- ---- the record read from words with the head h: only kind C is a tick, and only kind 6 with v 3 makes a car Manual, that of its n
 
@@ -96,15 +95,6 @@ decoded_reads ws =
 
 -- ---- a world that is not broken has low counters
 
-none_to : (f : ℕ → Bool) (n : ℕ) → any_to f n ≡ false → (i : ℕ) → i < n → f i ≡ false
-unfolding any_to
-none_to f zero h i l = absurd (omega arith)
-none_to f (suc n) h i l =
-    ⊎_elim (λ (e : i ≡ n). rw e (or_right (any_to f n) (f n) h)) (λ (b : i < n). none_to f n (or_left (any_to f n) (f n) h) i b) (eq-or-lt_of_le (last n i l))
-  where
-    last : (n i : ℕ) → i < suc n → i ≤ n
-    last n i l = omega arith
-
 count_low : (lines stops : ℕ) (c : Car) → car_broken lines stops c ≡ false → c.move_count < 2 ^ 48
 unfolding car_broken
 count_low lines stops c h =
@@ -135,7 +125,7 @@ unbroken w h =
     record {
       low = record {
         cars = λ i l. count_low w.lines.count w.stops.count (car_at w.cars.items i)
-            (none_to (λ j. car_broken w.lines.count w.stops.count (car_at w.cars.items j)) w.cars.count cars i (omega arith));
+            (none_of (λ j. car_broken w.lines.count w.stops.count (car_at w.cars.items j)) w.cars.count cars i (omega arith));
         total = k.moves;
         ticks = omega (arith, k.ticks);
       };

@@ -57,7 +57,9 @@ use Rattle.certificate.specs.Certificate.{is_tick, position_of, told}
 use Rattle.certificate.specs.Manual.{puts_in_manual}
 use Rattle.certificate.proofs.Watch.{open_after, told_none}
 use Rattle.certificate.proofs.Turns.{Sound, idle, stopped, moving, repositioning, opening, loading, closing, Fit}
-use Rattle.certificate.proofs.Holding.{Held, Summed, same?, held_step}
+use Rattle.certificate.proofs.Holding.{Held, Summed, held_step}
+use mathlib.Core.Logic.{⊎_elim}
+use Rattle.std.proofs.lemmas.Bool.{cases_eq}
 use Rattle.certificate.proofs.Ticking.{tick_ticks, tick_sums}
 use Rattle.certificate.proofs.Reading.{Says, Reads, Brings, decoded_reads, Unbroken, unbroken}
 
@@ -86,16 +88,17 @@ sum_orders : {cs : List Car} {n t : ℕ} {j : List ℕ} (i : ℕ) (c : Car) → 
 sum_orders {cs} {n} {t} {j} i c s l e = record {
   full = length-set cs i c ∙ s.full;
   cars = s.cars ∙ sum_same (λ k. (car_at cs k).move_count) (λ k. (car_at (set cs i c) k).move_count) n
-      (λ k m. same? i k (λ (q : k ≡ i). rw (q, get_or-set_same cs i c no_car l) (sym e)) (λ (q : k ≡ i → ⊥). rw (get_or-set_other cs i k c no_car q) refl));
+      (λ k m. ⊎_elim (λ (q : k ≡ i). rw (q, get_or-set_same cs i c no_car l) (sym e)) (λ (q : k ≡ i → ⊥). rw (get_or-set_other cs i k c no_car q) refl) (cases_eq k i));
   words = s.words;
 }
 
 -- a car is loaded
 held_new : {n : ℕ} {cs : List Car} {count : ℕ} {j : List ℕ} (c : Car) → Held n cs count j → count < length cs → Fit c false → Held n (set cs count c) (count + 1) j
 held_new {n} {cs} {count} {j} c h inside f = record {
-  fit = λ m. same? count n
+  fit = λ m. ⊎_elim
       (λ (q : n ≡ count). rw (h.fresh (omega (arith, q)), q, get_or-set_same cs count c no_car inside) f)
-      (λ (q : n ≡ count → ⊥). rw (get_or-set_other cs count n c no_car q) (h.fit (omega (arith, q))));
+      (λ (q : n ≡ count → ⊥). rw (get_or-set_other cs count n c no_car q) (h.fit (omega (arith, q))))
+      (cases_eq n count);
   fresh = λ m. h.fresh (omega arith);
   calm = h.calm;
 }

@@ -26,7 +26,7 @@ use Rattle.tick.specs.Tick.{tick_world, tick_words}
 use Rattle.tick.specs.Counters.{moves_in, sum_to, count_of, Low, Counts, NothingWraps}
 use Rattle.laws.proofs.Choices.{both}
 use Rattle.tick.proofs.Turns.{moves_append}
-use Rattle.tick.proofs.Proved.{nothing_wraps}
+use Rattle.tick.proofs.Proved.{moved_count, nothing_wraps}
 use Rattle.certificate.specs.Certificate.{position_of}
 use Rattle.certificate.proofs.Watch.{Told, told_none, told_join, told_tick, told_dull}
 use Rattle.certificate.proofs.Turns.{move_good, move_rests, move_silent, door_good, door_silent, door_stands}
@@ -76,10 +76,6 @@ module _ (i : ℕ) (o : Bool) where
 moved_full : (w : World) (dt : Float) → length (moved w dt).world.cars.items ≡ length w.cars.items
 unfolding moved
 moved_full w dt = run_full (move_of dt) w
-
-moved_count : (w : World) (dt : Float) → (moved w dt).world.cars.count ≡ w.cars.count
-unfolding moved
-moved_count w dt = run_count (move_of dt) w
 
 doored_count : (w : World) → (doored w).world.cars.count ≡ w.cars.count
 unfolding doored

@@ -3,7 +3,7 @@ use mathlib.Core.Path.{◌≡◌, refl, ap, ◌∙◌}
 use mathlib.Core.Logic.{◌⊎◌, inl, inr}
 use mathlib.Core.Bool.{true, false}
 use Prim.Native.Nat.{ℕ, zero, suc, ◌*◌, ◌/◌, ◌%◌, ◌^◌, ◌<◌, ◌≤◌}
-use native.Mathlib.Nat.{div-add-mod', mod-lt, div-div-eq-div-mul, pow-succ'}
+use native.Mathlib.Nat.{div-add-mod', mod-lt, pow-succ'}
 use native.Mathlib.Omega.{arith}
 use lib.Dec.{leb}
 use lib.ListN.{get_or}
@@ -11,7 +11,7 @@ use lib.Pow.{pow_mono}
 use borrow.Author.Tests.{le-leb, leb-true}
 use Rattle.laws.proofs.Bools.{no}
 use Rattle.call_sets.specs.Calls.{called}
-use Rattle.call_sets.proofs.Bits.{bit_held}
+use Rattle.call_sets.proofs.Bits.{bit_held, called_half}
 use Rattle.sound_rows.specs.Rows.{stop_unloaded, phase_unloaded, rider_phase_unloaded, line_broken, car_broken, rider_broken}
 use Rattle.sound.specs.Sound.{counts_broken, broken}
 use Rattle.world.specs.World.{line_at, car_at, rider_at}
@@ -111,10 +111,6 @@ rider_phase_decided cars Resident = empty cars (car_is Resident)
 
 -- ---- hall calls: the set is 2 to the count of stops or more exactly where it has a stop that is not loaded
 
-halved : (calls stop : ℕ) → called calls (suc stop) ≡ called (calls / 2) stop
-unfolding called
-halved calls stop = rw (div-div-eq-div-mul, ← pow-succ')
-
 -- a number above 0 has a bit
 lowest : (calls : ℕ) → calls % 2 ≡ 1 → called calls 0 ≡ true
 unfolding called
@@ -125,7 +121,7 @@ some_bit zero calls f h = absurd (omega arith)
 some_bit (suc fuel) calls f h = go (calls % 2) refl (some_bit fuel (calls / 2))
   where
     go : (r : ℕ) → calls % 2 ≡ r → (calls / 2 ≤ fuel → 0 < calls / 2 → (stop : ℕ) × (called (calls / 2) stop ≡ true)) → (stop : ℕ) × (called calls stop ≡ true)
-    go zero e rec = let x = rec (omega (arith, div-add-mod' calls 2)) (omega (arith, div-add-mod' calls 2)) in (suc x.0, halved calls x.0 ∙ x.1)
+    go zero e rec = let x = rec (omega (arith, div-add-mod' calls 2)) (omega (arith, div-add-mod' calls 2)) in (suc x.0, called_half calls x.0 ∙ x.1)
     go (suc zero) e rec = (0, lowest calls e)
     go (suc (suc r)) e rec = absurd (omega (arith, mod-lt calls {m = 2} (omega arith)))
 
@@ -135,7 +131,7 @@ high_bit (suc stops) calls h =
     let double : 2 ^ suc stops ≡ 2 * 2 ^ stops = pow-succ' 2 stops in
     let half : 2 ^ stops ≤ calls / 2 = omega (arith, div-add-mod' calls 2, mod-lt calls {m = 2} (omega arith)) in
     let x = high_bit stops (calls / 2) half in
-    (suc x.0, omega (arith, x.1), halved calls x.0 ∙ x.2)
+    (suc x.0, omega (arith, x.1), called_half calls x.0 ∙ x.2)
 
 calls_decided : (stops calls : ℕ) → Decides ((stop : ℕ) × (stops ≤ stop) × (called calls stop ≡ true)) (leb (2 ^ stops) calls)
 calls_decided stops calls = record {

@@ -6,7 +6,7 @@ use native.Mathlib.Nat.{zero-mul, mul-one, one-mul, mul-pos, pow-suc}
 use native.Mathlib.Omega.{arith}
 use lib.Pow.{pow_pos}
 use lib.IntN.{ℤ, pos, negsuc}
-use lib.Ieee.{Float, nan, inf, fin, binary64, up, down, lt, le, eq, ne, neg, is_nan, fits, of_bits, div}
+use lib.Ieee.{Float, nan, inf, fin, binary64, up, down, lt, le, eq, neg, is_nan, fits, of_bits}
 use lib.Ieee.Fits.{up_pos}
 use borrow.Author.Tests.{ltb-true, ltb-false, lt-ltb, eqb-true, eq-eqb}
 use Rattle.std.specs.Float.{NotNan, is_sign_negative}
@@ -63,12 +63,6 @@ eq_self (inf true) = refl
 eq_self (inf false) = refl
 eq_self (fin true m e) = rw (eq-eqb (m * up e * down e) (m * up e * down e) refl)
 eq_self (fin false m e) = rw (eq-eqb (m * up e * down e) (m * up e * down e) refl)
-
-pub ne_self : (x : Float) → ne x x ≡ is_nan x
-unfolding ne is_nan
-ne_self nan = refl
-ne_self (inf s) = rw (eq_self (inf s))
-ne_self (fin s m e) = rw (eq_self (fin s m e))
 
 -- ---- the library's methods
 

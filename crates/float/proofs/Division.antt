@@ -7,7 +7,6 @@ use native.Mathlib.Nat.{le_of_eq, lt_trans, lt_of_le_of_lt, lt_of_lt_of_le, zero
 use native.Mathlib.Nat.{mod-lt, mod-le, mod-eq_of_lt, mod-eq-sub-mod, mod-mod_of_dvd, dvd-mul_left, pow-suc}
 use native.Mathlib.Omega.{arith}
 use lib.Dec.{ltb, eqb, leb, eqb-suc-zero}
-use lib.IntN.{ℤ}
 use lib.Pow.{pow_pos, pow-add}
 use lib.Ieee.{Float, nan, inf, fin, binary64, up, down, round, add, sub, rem, neg, lt, of_bits}
 use lib.Ieee.Digits.{back}
@@ -16,10 +15,10 @@ use lib.Ieee.Scale.{round_same}
 use borrow.Author.Tests.{ltb-true, ltb-false, leb-true, leb-false, lt-ltb}
 use Rattle.float.specs.Float as F64
 use Rattle.float.specs.Facts.{IsF64}
-use Rattle.float.proofs.Cases.{lt_zero_pos, lt_zero_neg, zero_exponent}
-use Rattle.float.proofs.Rounding.{neg_round, round_own}
+use Rattle.float.proofs.Cases.{lt_zero_pos, lt_zero_neg}
+use Rattle.float.proofs.Rounding.{neg_round, round_self}
 use Rattle.float.proofs.Units.{held, Few, Worth, Count, count_of, held_count, held_top, lt_is, add_is, sub_is, rem_is, scaled}
-use Rattle.laws.proofs.Bools.{no, yes, holds}
+use Rattle.laws.proofs.Bools.{no, yes}
 
 -- ---- sizes whose few digits are kept
 
@@ -219,12 +218,6 @@ module _ (a b : Float) (t : IsF64 a) (u : IsF64 b) (k : F64.abs a ≡ a) (f : F6
 -- ---- the other ways out
 
 -- a size below the divisor's stays
-round_self : (s : Bool) (m : ℕ) (e : ℤ) → IsF64 (fin s m e) → round binary64 s (m * up e) (down e) ≡ fin s m e
-unfolding round
-round_self true zero e t = rw (zero_exponent true e t)
-round_self false zero e t = rw (zero_exponent false e t)
-round_self s (suc m) e t = round_own s m e (holds t)
-
 pub less : (x y : Float) → IsF64 x → lt (F64.abs x) (F64.abs y) ≡ true → x ≡ rem binary64 x y
 unfolding lt F64.abs rem
 less nan y t l = no l

@@ -97,6 +97,12 @@ round_own s m e t = go (round binary64 s (suc m * up e) (down e)) (round-fits bi
         let sign : fin r n d ≡ fin s n d = ap (λ (b : Bool). fin b n d) v.0 in
         sign ∙ unique s n d (suc m) e (subst (λ (x : Float). T (fits binary64 x)) sign u) t v.1
 
+-- a zero too
+pub round_self : (s : Bool) (m : ℕ) (e : ℤ) → fits binary64 (fin s m e) ≡ true → round binary64 s (m * up e) (down e) ≡ fin s m e
+unfolding round
+round_self s zero e t = rw (zero_exponent s e t)
+round_self s (suc m) e t = round_own s m e (holds t)
+
 -- ---- signs of what is rounded
 
 -- no NaN, and no sign

@@ -1,6 +1,6 @@
 -- total_cmp's order is a strict total order: by sign first, then by size. Assumes nothing.
 use mathlib.Core.Path.{◌≡◌, refl, sym, subst, ◌∙◌}
-use mathlib.Core.Bool.{Bool, true, false, not, ◌&&◌, ◌||◌, cond}
+use mathlib.Core.Bool.{Bool, true, false, not, ◌&&◌, ◌||◌, cond, or-false}
 use Prim.Native.Nat.{ℕ, zero, suc, ◌+◌, ◌*◌, ◌<◌}
 use native.Mathlib.Nat.{mul_right_comm, mul-lt-mul_of_pos_right, lt_of_mul-lt-mul_right, lt_trans}
 use native.Mathlib.Omega.{arith}
@@ -21,13 +21,9 @@ earlier false a true b = false
 earlier true a false b = true
 earlier true a true b = ltb b a
 
-plain : (b : Bool) → (b || false) ≡ b
-plain true = refl
-plain false = refl
-
 either : (q l : Bool) → l ≡ true → cond q true (l || false) ≡ true
 either true l h = refl
-either false l h = plain l ∙ h
+either false l h = or-false l ∙ h
 
 before_fin : (s : Bool) (m : ℕ) (e : ℤ) (t : Bool) (n : ℕ) (d : ℤ) → F64.total_before (fin s m e) (fin t n d) ≡ earlier s (m * up e * down d) t (n * up d * down e)
 unfolding F64.total_before F64.is_sign_negative lt eq is_nan
@@ -38,12 +34,12 @@ before_fin s m e t n d = go s t (m * up e * down d) (n * up d * down e)
       where
         by : (q : Bool) → eqb a b ≡ q → cond (q && true) false (ltb a b || false) ≡ ltb a b
         by true e = sym (le-ltb a b (omega (arith, eqb-true a b e)))
-        by false e = plain (ltb a b)
+        by false e = or-false (ltb a b)
     go true true a b = by (eqb a b) refl
       where
         by : (q : Bool) → eqb a b ≡ q → cond (q && true) false (ltb b a || false) ≡ ltb b a
         by true e = sym (le-ltb b a (omega (arith, eqb-true a b e)))
-        by false e = plain (ltb b a)
+        by false e = or-false (ltb b a)
     go false true a b = by (eqb a b && eqb a 0)
       where
         by : (q : Bool) → cond q false false ≡ false

@@ -6,22 +6,16 @@ use native.Mathlib.Nat.{zero-mul, mul-pos, mul_assoc, mul_right_comm, mod-eq_of_
 use native.Mathlib.Omega.{arith}
 use lib.Dec.{eqb-suc-zero}
 use lib.IntN.{ℤ}
-use lib.Ieee.{Float, nan, inf, fin, binary64, up, down, round, rem, lt, le, of_bits}
+use lib.Ieee.{Float, nan, inf, fin, binary64, up, down, rem, lt, le, of_bits}
 use lib.Ieee.Fits.{up_pos, down_pos}
 use lib.Ieee.Scale.{round_same}
 use borrow.Author.Tests.{ltb-true, le-ltb, ne_eqb}
 use Rattle.float.specs.Float as F64
 use Rattle.float.specs.Facts.{IsF64}
-use Rattle.float.proofs.Cases.{zero_exponent, null_le_zero, minus_le_zero, placed_minus}
-use Rattle.laws.proofs.Bools.{no, holds}
-use Rattle.float.proofs.Rounding.{round_own}
+use Rattle.float.proofs.Cases.{null_le_zero, minus_le_zero, placed_minus}
+use Rattle.laws.proofs.Bools.{no}
+use Rattle.float.proofs.Rounding.{round_self}
 use Rattle.motion.specs.Cyclic.{InCircle, degenerate, wrap_position}
-
--- an f64 is what its own size rounds to, a zero too
-round_self : (s : Bool) (m : ℕ) (e : ℤ) → IsF64 (fin s m e) → round binary64 s (m * up e) (down e) ≡ fin s m e
-unfolding round
-round_self s zero e t = rw (zero_exponent s e t)
-round_self s (suc m) e t = round_own s m e (holds t)
 
 rem_inside : (s : Bool) (m : ℕ) (e : ℤ) (n : ℕ) (d : ℤ) → IsF64 (fin s m e) → m * up e * down d < suc n * up d * down e → rem binary64 (fin s m e) (fin false (suc n) d) ≡ fin s m e
 unfolding rem

@@ -3,17 +3,15 @@ use mathlib.Core.Path.{◌≡◌, refl, ap, ◌∙◌, sym}
 use mathlib.Core.Bool.{true, false, cond}
 use mathlib.Core.Logic.{◌⊎◌, ⊎_elim}
 use mathlib.Core.List.{List, [], ◌∷◌, ◌++◌}
-use Prim.Native.Nat.{ℕ, zero, suc, ◌+◌, ◌<◌, ◌≤◌, min}
+use Prim.Native.Nat.{ℕ, zero, suc, ◌+◌, min}
 use native.Mathlib.Numerals.{add-one}
-use borrow.Author.Tests.{lt-ltb, le-ltb}
 use lib.ListN.{set}
 use lib.Ieee.{Float}
 use Rattle.motion.specs.declared.movement.MovementResult.{MovementResult}
-use Rattle.laws.proofs.Bools.{yes, no}
-use Rattle.world.specs.World.{car_at, line_at}
+use Rattle.laws.proofs.Bools.{no}
+use Rattle.world.specs.World.{car_at}
 use Rattle.world.specs.declared.World.{World}
 use Rattle.world.specs.declared.Car.{Car}
-use Rattle.world.specs.declared.Line.{Line}
 use Rattle.world.specs.declared.LineKind.{LineKind}
 use Rattle.world.specs.declared.LineKind.TheVariants.{Linear, Loop}
 use Rattle.std.specs.declared.option.Option.{Option}
@@ -27,11 +25,9 @@ use Rattle.steps.specs.declared.JustOpened.{JustOpened}
 use Rattle.steps.proofs.Cars.{kept, stepped_same}
 use Rattle.doors_system.specs.Doors.{doors_world, doors_words}
 use Rattle.doors_system.proofs.Running.{Runs}
-use Rattle.hall_calls.specs.Clearing.{Clears, clear_to, clear_words_to}
-use Rattle.world.specs.declared.Calls.{Calls}
 use Rattle.world.specs.declared.Lamps.{Lamps}
 use Rattle.world.specs.Tables.{Stops}
-use Rattle.trips.specs.Trips.{is_trip, is_loop, trip_of}
+use Rattle.trips.specs.Trips.{is_trip, trip_of}
 use Rattle.landing.specs.Landing.{leader_of, landing}
 use Rattle.arrival.specs.Arrival.{asks_work, work_of}
 use Rattle.trips.specs.declared.Trip.{Trip}

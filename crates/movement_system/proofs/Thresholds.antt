@@ -1,6 +1,6 @@
 -- Stops in the order of the sort stay on their side of a threshold: where a later one is at most, or below it, so is an earlier one. Assumes nothing.
 use mathlib.Core.Path.{◌≡◌, refl, sym, ◌∙◌}
-use mathlib.Core.Bool.{Bool, true, false, not, ◌&&◌, ◌||◌}
+use mathlib.Core.Bool.{Bool, true, false, not, ◌&&◌, ◌||◌, or-false}
 use mathlib.Core.List.{List}
 use Prim.Native.Nat.{ℕ, ◌+◌, ◌*◌, ◌≤◌}
 use native.Mathlib.Omega.{arith}
@@ -55,10 +55,6 @@ of_at_most true true a b h = by (ltb b a) refl h
     by true e h = le-ltb a b (omega (arith, ltb-true b a e))
     by false e h = le-ltb a b (omega (arith, eqb-true a b (and_left (eqb a b) true h)))
 
-plain : (b : Bool) → (b || false) ≡ b
-plain true = refl
-plain false = refl
-
 -- a number at most a threshold is not after it
 not_after : (q t : Float) → le q t ≡ true → position_before t q ≡ false
 unfolding position_before le lt eq is_nan
@@ -73,7 +69,7 @@ not_after (inf false) (fin t n d) h = no h
 not_after (fin s m e) nan h = no h
 not_after (fin s m e) (inf true) h = no h
 not_after (fin s m e) (inf false) h = refl
-not_after (fin s m e) (fin t n d) h = plain _ ∙ of_at_most s t (m * up e * down d) (n * up d * down e) h
+not_after (fin s m e) (fin t n d) h = or-false _ ∙ of_at_most s t (m * up e * down d) (n * up d * down e) h
 
 -- and what is not after a number is at most it
 le_of_not_after : (p t : Float) → is_nan t ≡ false → position_before t p ≡ false → le p t ≡ true
@@ -89,7 +85,7 @@ le_of_not_after (inf true) (fin t k d) n h = refl
 le_of_not_after (inf false) (fin t k d) n h = yes h
 le_of_not_after (fin s m e) (inf true) n h = yes h
 le_of_not_after (fin s m e) (inf false) n h = refl
-le_of_not_after (fin s m e) (fin t k d) n h = at_most_of s t (m * up e * down d) (k * up d * down e) (sym (plain _) ∙ h)
+le_of_not_after (fin s m e) (fin t k d) n h = at_most_of s t (m * up e * down d) (k * up d * down e) (sym (or-false _) ∙ h)
 
 le_number : (q t : Float) → le q t ≡ true → is_nan t ≡ false
 unfolding le lt eq is_nan

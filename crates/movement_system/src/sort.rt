@@ -60,11 +60,7 @@ impl SortedStops {
         ensures { result.now ≡ Passing.between (order_of self.now) (Passing.start_of self.now.items (order_of self.now) from) (Passing.end_of self.now.items (order_of self.now) to) }
     {
         let rest = &self.sorted()[self.count_up_to(from)..];
-        for (k, &stop) in rest.iter().enumerate() {
-            if !(stop_position(&self.stops.items, stop) < to) {
-                return &rest[..k];
-            }
-        }
-        rest
+        let below = |stop: &&u8| stop_position(&self.stops.items, **stop) < to;
+        &rest[..rest.iter().take_while(below).count()]
     }
 }

@@ -1,13 +1,13 @@
 -- Numbers that are loaded: laws of tables, of what a world names, of hall calls. Assumes nothing.
 use mathlib.Core.Path.{◌≡◌, refl}
-use mathlib.Core.Bool.{Bool, true, false, ◌||◌}
+use mathlib.Core.Bool.{Bool, false, ◌||◌}
 use mathlib.Core.List.{List, [], ◌∷◌}
 use Prim.Native.Nat.{ℕ, zero, suc, ◌^◌, ◌<◌, ◌≤◌}
 use native.Mathlib.Omega.{arith}
-use lib.Dec.{leb, ltb, eqb}
+use lib.Dec.{leb, ltb}
 use lib.ListN.{get_or, set}
 use lib.Seq.{get_or-set_other}
-use borrow.Author.Tests.{eqb-true, eqb-false, leb-false, lt-leb}
+use borrow.Author.Tests.{leb-false, lt-leb}
 use Rattle.laws.proofs.Bools.{or_left, or_right}
 use Rattle.sound_rows.specs.Rows.{any_to, unloaded, stop_unloaded, car_unloaded, phase_unloaded, rider_phase_unloaded, line_broken, rider_broken}
 use Rattle.call_sets.specs.Calls.{called, pressed, cleared}
@@ -21,16 +21,11 @@ use Rattle.std.specs.declared.option.Option.{Option}
 use Rattle.std.specs.declared.option.Option.TheVariants.{None, Some}
 use Rattle.call_sets.proofs.Bits.{bit_room}
 use Rattle.laws.proofs.Choices.{both, cases}
+use Rattle.sound_rows.proofs.AnyTo.{none_to, none_of}
+use Rattle.std.proofs.lemmas.Bool.{cases_eq}
+use mathlib.Core.Logic.{⊎_elim}
 
 -- ---- tables
-
--- a number is that one, or another
-same_or : {P : Type 0} (i j : ℕ) → (j ≡ i → P) → ((j ≡ i → ⊥) → P) → P
-same_or {P} i j p q = go (eqb j i) refl
-  where
-    go : (b : Bool) → eqb j i ≡ b → P
-    go true e = p (eqb-true j i e)
-    go false e = q (eqb-false j i e)
 
 module _ {A : Type 0} (P : A → Type 0) (d x : A) (past : P d) (new : P x) where
   -- a place that is set has what it is set to, or is past the end
@@ -43,19 +38,7 @@ module _ {A : Type 0} (P : A → Type 0) (d x : A) (past : P d) (new : P x) wher
   pub table_set : (l : List A) (i n m : ℕ) → ((j : ℕ) → j < n → P (get_or l j d)) → ((j : ℕ) → j < m → (j ≡ i → ⊥) → j < n) → (j : ℕ) → j < m
       → P (get_or (set l i x) j d)
   table_set l i n m h fits j below =
-      same_or i j (λ (e : j ≡ i). rw e (at_place l i)) (λ (e : j ≡ i → ⊥). rw (get_or-set_other l i j x d e) (h j (fits j below e)))
-
--- none of the first n
-pub none_to : (f : ℕ → Bool) (n : ℕ) → ((k : ℕ) → k < n → f k ≡ false) → any_to f n ≡ false
-unfolding any_to
-none_to f zero h = refl
-none_to f (suc n) h = rw (none_to f n (λ k l. h k (omega arith)), h n (omega arith))
-
-pub none_of : (f : ℕ → Bool) (n : ℕ) → any_to f n ≡ false → (k : ℕ) → k < n → f k ≡ false
-unfolding any_to
-none_of f zero h k l = absurd (omega arith)
-none_of f (suc n) h k l =
-    same_or n k (λ (e : k ≡ n). rw e (or_right (any_to f n) (f n) h)) (λ (e : k ≡ n → ⊥). none_of f n (or_left (any_to f n) (f n) h) k (omega (arith, e)))
+      ⊎_elim (λ (e : j ≡ i). rw e (at_place l i)) (λ (e : j ≡ i → ⊥). rw (get_or-set_other l i j x d e) (h j (fits j below e))) (cases_eq j i)
 
 -- ---- what is loaded stays so while more is loaded
 

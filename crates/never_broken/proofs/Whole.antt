@@ -10,7 +10,7 @@ use Rattle.sound.specs.Sound.{counts_broken, broken}
 use Rattle.world.specs.World.{line_at, car_at, rider_at}
 use Rattle.world.specs.declared.World.{World}
 use Rattle.world.specs.declared.Car.{Car}
-use Rattle.never_broken.proofs.Numbers.{none_to}
+use Rattle.sound_rows.proofs.AnyTo.{none_to}
 use Rattle.never_broken.proofs.Turns.{CarIn}
 use Rattle.never_broken.proofs.Worlds.{Sound}
 

@@ -1,6 +1,6 @@
 -- The order of stops is a strict total order of their numbers. Assumes nothing.
 use mathlib.Core.Path.{◌≡◌, refl, sym, subst, ◌∙◌}
-use mathlib.Core.Bool.{Bool, true, false, not, ◌&&◌, ◌||◌}
+use mathlib.Core.Bool.{Bool, true, false, not, ◌&&◌, ◌||◌, or-false}
 use mathlib.Core.List.{List}
 use Prim.Native.Nat.{ℕ, zero, suc, ◌+◌, ◌*◌, ◌<◌, ◌≤◌}
 use native.Mathlib.Nat.{le_trans, mul-pos, zero-mul, mul_right_comm, mul-le-mul_right, le_of_mul-le-mul_right}
@@ -12,10 +12,6 @@ use borrow.Author.Tests.{ltb-true, ltb-false, lt-ltb, le-ltb}
 use Rattle.laws.proofs.Bools.{no, yes}
 use Rattle.world.specs.World.{stop_at}
 use Rattle.sorted.specs.Sorted.{position_before, stop_before, IsOrder}
-
-plain : (b : Bool) → (b || false) ≡ b
-plain true = refl
-plain false = refl
 
 -- ---- positions: no two are each before the other, and "not before" goes on through a third
 
@@ -80,7 +76,7 @@ not_both (inf false) (fin t n d) h = no h
 not_both (fin s m e) nan h = refl
 not_both (fin s m e) (inf true) h = no h
 not_both (fin s m e) (inf false) h = refl
-not_both (fin s m e) (fin t n d) h = plain _ ∙ below_not s (m * up e * down d) t (n * up d * down e) (sym (plain _) ∙ h)
+not_both (fin s m e) (fin t n d) h = or-false _ ∙ below_not s (m * up e * down d) t (n * up d * down e) (sym (or-false _) ∙ h)
 
 pub not_through : (p q r : Float) → position_before q p ≡ false → position_before r q ≡ false → position_before r p ≡ false
 unfolding position_before lt is_nan
@@ -109,7 +105,7 @@ not_through (fin s m e) (fin t n d) nan h k = refl
 not_through (fin s m e) (fin t n d) (inf true) h k = yes k
 not_through (fin s m e) (fin t n d) (inf false) h k = refl
 not_through (fin s m e) (fin t n d) (fin u l g) h k =
-    plain _ ∙ below_through s t u (m * up e) (n * up d) (l * up g) (down e) (down d) (down g) (down_pos e) (down_pos d) (down_pos g) (sym (plain _) ∙ h) (sym (plain _) ∙ k)
+    or-false _ ∙ below_through s t u (m * up e) (n * up d) (l * up g) (down e) (down d) (down g) (down_pos e) (down_pos d) (down_pos g) (sym (or-false _) ∙ h) (sym (or-false _) ∙ k)
 
 -- ---- stops
 

@@ -1,7 +1,10 @@
 -- Whether one of a table's items passes a test, by their numbers. Assumes nothing.
-use Rattle.std.proofs.Common.{◌≡◌, ◌≤◌, ℕ, Bool, List, length, get_or, min, refl, arith, length-take}
+use Rattle.std.proofs.Common.{◌≡◌, ◌≤◌, ◌<◌, ℕ, zero, suc, Bool, List, length, get_or, min, refl, arith, length-take}
 use mathlib.Core.Bool.{false, ◌||◌}
+use mathlib.Core.Logic.{⊎_elim}
 use Rattle.std.specs.List.{fold}
+use Rattle.std.proofs.lemmas.Bool.{cases_eq}
+use Rattle.laws.proofs.Bools.{or_left, or_right}
 use Rattle.laws.proofs.Folding.{fold_to}
 use Rattle.world.specs.Tables.{listed}
 use Rattle.world.specs.declared.Table.{Table}
@@ -15,3 +18,15 @@ any_of_table {X} {m} p t d e h few =
     let all : min t.count m ≡ t.count = omega (arith, few) in
     let fits : t.count ≤ length t.items = omega (arith, length-take (min t.count m) t.items, rw e at h) in
     rw (e, all) (fold_to (λ found x. found || p x) false t.items d (any_to (λ k. p (get_or t.items k d))) refl (λ k. refl) t.count fits)
+
+-- none of the first n
+pub none_to : (f : ℕ → Bool) (n : ℕ) → ((k : ℕ) → k < n → f k ≡ false) → any_to f n ≡ false
+unfolding any_to
+none_to f zero h = refl
+none_to f (suc n) h = rw (none_to f n (λ k l. h k (omega arith)), h n (omega arith))
+
+pub none_of : (f : ℕ → Bool) (n : ℕ) → any_to f n ≡ false → (k : ℕ) → k < n → f k ≡ false
+unfolding any_to
+none_of f zero h k l = absurd (omega arith)
+none_of f (suc n) h k l =
+    ⊎_elim (λ (e : k ≡ n). rw e (or_right (any_to f n) (f n) h)) (λ (e : k ≡ n → ⊥). none_of f n (or_left (any_to f n) (f n) h) k (omega (arith, e))) (cases_eq k n)

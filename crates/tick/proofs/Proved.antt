@@ -54,9 +54,9 @@ doored_told : (w : World) → Told door_of w 11 0 (cars_of w) (doored w)
 unfolding doored run_cars
 doored_told w = run_told door_of w 11 0 (λ v i e. door_fair v i) (cars_of w)
 
-same_count : (w : World) (dt : Float) → (moved w dt).world.cars.count ≡ w.cars.count
+pub moved_count : (w : World) (dt : Float) → (moved w dt).world.cars.count ≡ w.cars.count
 unfolding moved run_cars
-same_count w dt = kept (move_of dt) w (λ (v : World). v.cars.count) (λ v i s. refl) (cars_of w)
+moved_count w dt = kept (move_of dt) w (λ (v : World). v.cars.count) (λ v i s. refl) (cars_of w)
 
 -- a tick's words by their parts
 parts : (a b c : List ℕ) → length (a ++ (b ++ c)) ≡ length a + (length b + length c)
@@ -74,7 +74,7 @@ words_fit w dt =
       arith,
       parts (moved w dt).words (doored v).words (clear_words_to os v.calls (cars_of v)),
       (moved_told w dt).size,
-      same_count w dt,
+      moved_count w dt,
       (doored_told v).size,
       (calls_quiet os v.calls (cars_of v)).size,
     )
@@ -91,7 +91,7 @@ module _ (w : World) (dt : Float) (low : Low w) where
   v = (moved w dt).world
 
   same_cars : cars_of v ≡ cars_of w
-  same_cars = rw (same_count w dt)
+  same_cars = rw (moved_count w dt)
 
   moved_grown : Grown (move_of dt) w (cars_of w) v
   unfolding moved run_cars

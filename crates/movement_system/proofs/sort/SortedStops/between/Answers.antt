@@ -1,28 +1,30 @@
 -- `movement_system::sort::SortedStops::between` meets its contract. Assumes nothing.
-use Prim.Native.Nat.{min}
-use Rattle.movement_system.specs.Passing.{end_of}
-use Rattle.movement_system.proofs.Counting.{end_split, rest_all, goes_on, ends_here, ends_last}
+use Rattle.std.proofs.Common.{arith, rules, ◌≡◌, ◌-◌, ℕ, min, take, drop, length, ◌∙◌}
+use Rattle.std.proofs.lemmas.List.{take_all, length-drop}
+use borrow.Author.Tests.{tests}
+use lib.Ieee.{lt}
+use Rattle.std.specs.List.{prefix_len}
+use Rattle.std.proofs.lemmas.Iterator.{YieldsList-from_slice}
+use Rattle.std.proofs.lemmas.Iterator.Consumers.{count_from_yields_List}
+use Rattle.std.proofs.lemmas.Iterator.Search.{YieldsList-from_take_while}
+use Rattle.std.proofs.lemmas.List.Folds.{length-prefix_len}
+use Rattle.world.specs.World.{stop_at}
+use Rattle.movement_system.specs.Passing.{end_of, between}
+use Rattle.movement_system.proofs.Counting.{end_split, first_are}
+use Rattle.movement_system.proofs.Emitting.{start_within}
 use Rattle.movement_system.proofs.sort.SortedStops.between.Goals as goal
 
-pub returns-then-not-stop_position-to : goal.returns-then-not-stop_position-to
-unfolding end_of
-returns-then-not-stop_position-to c =
-    let v = c.args.self.now in
-    let l = rw (rest_all _ _, c.sorted.ensures, c.count_up_to.ensures) at c.loop-k-test.true in
-    let t = rw (c.stop_position.ensures, c.self.view_is, rest_all _ _, c.sorted.ensures, c.count_up_to.ensures) at c.if-not-stop_position-to.true in
-    rw (rest_all _ _, c.sorted.ensures, c.count_up_to.ensures) (ends_here _ _ (end_split v.items (min v.count 64) c.args.to) _ _ l c.loop-k.invariant t)
-
-pub loop-k-preserved : goal.loop-k-preserved
-unfolding end_of
-loop-k-preserved c =
-    let v = c.args.self.now in
-    let l = rw (rest_all _ _, c.sorted.ensures, c.count_up_to.ensures) at c.loop-k-test.true in
-    let t = rw (c.stop_position.ensures, c.self.view_is, rest_all _ _, c.sorted.ensures, c.count_up_to.ensures) at c.if-not-stop_position-to.false in
-    goes_on _ _ (end_split v.items (min v.count 64) c.args.to) _ _ l t
-
 pub returns : goal.returns
-unfolding end_of
+unfolding end_of between
 returns c =
     let v = c.args.self.now in
-    let l = rw (rest_all _ _, c.sorted.ensures, c.count_up_to.ensures) at c.loop-k-test.false in
-    rw (rest_all _ _, c.sorted.ensures, c.count_up_to.ensures) (ends_last _ _ (end_split v.items (min v.count 64) c.args.to) _ _ l c.loop-k.invariant)
+    let n = min v.count 64 in
+    let is = λ (s : ℕ). lt (stop_at v.items s) c.args.to in
+    let start = c.count_up_to.result in
+    let xs = c.sorted.result.now in
+    let rest = take (length xs - start) (drop start xs) in
+    let all = take_all (length xs - start) (drop start xs) (omega (arith, length-drop start xs)) in
+    let count : c.count.result ≡ prefix_len is rest = count_from_yields_List c.take_while.result _ c.count.ensures.ran
+    (YieldsList-from_take_while _ is (YieldsList-from_slice rest (cc)) c.take_while.ensures.closure c.take_while.ensures.done (λ x b q k. search (rules, tests)))
+    ∙ length-prefix_len is rest in
+    rw (count, all, c.sorted.ensures, c.count_up_to.ensures, first_are is _ (end_split v.items n c.args.to) _ (start_within v.items n c.args.from))
