@@ -15,9 +15,9 @@ use Rattle.log_writes.specs.Told.{Told as Prints}
 use Rattle.log_writes.specs.declared.Writer.{Writer}
 use Rattle.log_writes.proofs.Writing.{wrote_length, wrote_fits}
 use Rattle.log_writes.proofs.Telling.{told_none, told_also}
-use Rattle.record.specs.Record as Record
-use Rattle.record.specs.Record.{Outcome, record_of, is_accepted, used_of}
-use Rattle.record.specs.Record.{Recorded}
+use Rattle.world.specs.declared.World.{World}
+use Rattle.record.specs.Record.{Answer, Outcome, record_of, is_accepted, used_of}
+use Rattle.lent.specs.Lent.{Lent}
 use Rattle.conditions.specs.Conditions.{Kept, FirstCondition}
 use Rattle.conditions.proofs.Answering.{first_condition}
 use Rattle.laws.specs.Numbers.{bit}
@@ -82,20 +82,17 @@ pub record Stepped (o : Outcome) (c : Counts) (out : Writer ℕ) (s : Study) (n 
   pub over : s.over ≡ not (is_accepted o.answer)
   pub text : Prints out (told o.answer o.log) out'
 
--- what the code holds then: the world of what the call made, and what is told of its answer
-abbrev pub holds : Recorded → Counts → Bool → Study
-holds made c over = record { world = made.world; counts = c; over = over }
-
-pub stepped : (o : Outcome) (made : Recorded) (log' : List ℕ) (out out' : Writer ℕ) (c : Counts) (t : Told)
-    → Record.Gives made log' o
-    → Tells made.answer log' c out t out'
-    → Stepped o c out (holds made t.counts t.refused) t.used out'
-stepped o made log' out out' c t g k = record {
-  world = g.world;
-  counts = rw (← g.answer, ← g.log) k.counts;
-  used = rw (← g.answer) k.used;
-  over = rw (← g.answer) k.refused;
-  text = rw (← g.answer, ← g.log) k.text;
+-- by what the lent call gave, and what is told of its answer
+pub stepped : {w w' : World} {words lent log' : List ℕ} {answer : Answer} {out out' : Writer ℕ} {c : Counts} {t : Told}
+    → Lent w words lent answer w' log'
+    → Tells answer log' c out t out'
+    → Stepped (record_of w words lent) c out (record { world = w'; counts = t.counts; over = t.refused }) t.used out'
+stepped l k = record {
+  world = l.world;
+  counts = rw (← l.answer, ← l.log) k.counts;
+  used = rw (← l.answer) k.used;
+  over = rw (← l.answer) k.refused;
+  text = rw (← l.answer, ← l.log) k.text;
 }
 
 -- the words behind a place of the piece, and how many
