@@ -75,10 +75,9 @@ fn play_words(
     // Stays: a while: its condition asks what was told last, and a record says itself how many words it used.
     while goes(ended, after.over, words.len() - from, out.at) {
         let answer = record_in_place(&mut after.world, &words[from..], log);
-        let told = tell_answer(answer, after.counts, log, out);
-        after.counts = told.counts;
-        after.over = told.refused;
-        from += told.used;
+        let used = tell_answer(answer, &mut after.counts, log, out);
+        after.over = used.is_none();
+        from += used.unwrap_or(0);
     }
     Played { study: after, from }
 }
