@@ -1,6 +1,7 @@
 -- The loop over a piece's records: what it still does is what the definition still does. Assumes nothing.
 use mathlib.Core.Path.{◌≡◌, refl, ap, ◌∙◌}
 use mathlib.Core.Bool.{Bool, true, false, not, cond}
+use Rattle.std.specs.Prelude.{Option, is_some, unwrap_or, Ok, Err}
 use mathlib.Core.List.{List, [], ◌∷◌, ◌++◌, append-nil}
 use Prim.Native.Nat.{ℕ, zero, suc, ◌+◌, ◌-◌, ◌*◌, ◌/◌, ◌<◌, ◌≤◌, min}
 use native.Mathlib.Omega.{arith}
@@ -24,8 +25,7 @@ use Rattle.laws.specs.Numbers.{bit}
 use Rattle.report.specs.declared.Counts.{Counts}
 use Rattle.study_text.specs.Text.{words_of}
 use Rattle.study_text.proofs.Keeping.{take_min}
-use Rattle.play.specs.declared.Told.{Told}
-use Rattle.play.specs.Play.{told, counts_after, ending, Tells}
+use Rattle.play.specs.Play.{told, counts_after, uses, ending, Tells}
 use Rattle.pieces.specs.Pieces.{Playing, next_record, ready, goes, play_to, ends, closed, close, advanced, playing, Gives}
 use Rattle.pieces.specs.Parts.{IsEmpty, Reached, ClosesBy, Closes}
 use Rattle.pieces.specs.declared.Study.{Study}
@@ -83,15 +83,27 @@ pub record Stepped (o : Outcome) (c : Counts) (out : Writer ℕ) (s : Study) (n 
   pub text : Prints out (told o.answer o.log) out'
 
 -- by what the lent call gave, and what is told of its answer
-pub stepped : {w w' : World} {words lent log' : List ℕ} {answer : Answer} {out out' : Writer ℕ} {c : Counts} {t : Told}
+used_words : (a : Answer) → unwrap_or (uses a) 0 ≡ used_of a
+used_words (Ok a) = refl
+used_words (Err r) = refl
+
+over_is : (a : Answer) (over : Bool) → is_some (uses a) ≡ not over → over ≡ not (is_accepted a)
+over_is (Ok a) true e = e
+over_is (Ok a) false e = refl
+over_is (Err r) true e = refl
+over_is (Err r) false e = e
+
+pub stepped : {w w' : World} {words lent log' : List ℕ} {answer : Answer} {used : Option ℕ} {out out' : Writer ℕ} {c c' : Counts} {over : Bool} {n : ℕ}
     → Lent w words lent answer w' log'
-    → Tells answer log' c out t out'
-    → Stepped (record_of w words lent) c out (record { world = w'; counts = t.counts; over = t.refused }) t.used out'
-stepped l k = record {
+    → Tells answer log' c out used c' out'
+    → is_some used ≡ not over
+    → n ≡ unwrap_or used 0
+    → Stepped (record_of w words lent) c out (record { world = w'; counts = c'; over = over }) n out'
+stepped {answer = a} {over = over} l k e f = record {
   world = l.world;
   counts = rw (← l.answer, ← l.log) k.counts;
-  used = rw (← l.answer) k.used;
-  over = rw (← l.answer) k.refused;
+  used = rw (← l.answer, f, k.used) (used_words a);
+  over = rw (← l.answer) (over_is a over (rw k.used at e));
   text = rw (← l.answer, ← l.log) k.text;
 }
 

@@ -21,6 +21,7 @@ use world::empty::empty;
 pub struct Study {
     pub world: World,
     pub counts: Counts,
+    // Stays: one bit and no enum. World and counts are in both of its variants, and the loop, the tape's end and the program ask for this alone.
     pub over: bool,
 }
 

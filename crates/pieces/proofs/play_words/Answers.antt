@@ -3,7 +3,7 @@ use Rattle.std.proofs.Common.{◌+◌, ◌≤◌, [], length, arith}
 use Rattle.pieces.proofs.Going.{here, Going, going, stepped, fewer, turn, reached, rest_of}
 use Rattle.pieces.specs.declared.Study.{Study}
 use Rattle.pieces.proofs.play_words.Goals as goal
-use Rattle.pieces.proofs.play_words.Goals.{After-struct_known-1}
+use Rattle.pieces.proofs.play_words.Goals.{After-unwrap_or-from}
 
 pub loop-after-init : goal.loop-after-init
 loop-after-init c =
@@ -11,12 +11,12 @@ loop-after-init c =
     (c.requires.words, omega arith, going a.ended a.piece.now a.log.now a.out.now a.study c.requires.empty c.told-log)
 
 -- a turn of the loop goes on, and uses no word past the end
-next : (c : After-struct_known-1) → Study
-next c = record { world = c.record_in_place-answer.new.world; counts = c.tell_answer-told.result.counts; over = c.tell_answer-told.result.refused }
+next : (c : After-unwrap_or-from) → Study
+next c = record { world = c.record_in_place-answer.new.world; counts = c.tell_answer-used.new.counts; over = c.is_none.result }
 
-goes_next : (c : After-struct_known-1) → let l = c.loop-after in let t = c.tell_answer-told in
-    (l.from + t.result.used ≤ length c.args.words.now)
-    × Going c.args.ended (here c.args.study c.args.log.now c.args.piece.now 0 []) c.args.piece.now c.args.out.now c.record_in_place-answer.new.log t.new.out (next c) (l.from + t.result.used)
+goes_next : (c : After-unwrap_or-from) → let l = c.loop-after in let n = c.unwrap_or-from.result in
+    (l.from + n ≤ length c.args.words.now)
+    × Going c.args.ended (here c.args.study c.args.log.now c.args.piece.now 0 []) c.args.piece.now c.args.out.now c.record_in_place-answer.new.log c.tell_answer-used.new.out (next c) (l.from + n)
 unfolding next
 goes_next c =
     let a = c.args in
@@ -25,12 +25,12 @@ goes_next c =
     let g = turn a.ended a.piece.now l.log l.after l.from _ a.out.now l.out _ _ _ _ l.invariant.2
     (rw (← l.invariant.0, ← c.goes.ensures) c.loop-after-test.true)
     o.log
-    (stepped o c.tell_answer-told.ensures) in
+    (stepped o c.tell_answer-used.ensures c.is_none.ensures c.unwrap_or-from.ensures) in
     (rw l.invariant.0 g.within, g)
 
 pub loop-after-preserved : goal.loop-after-preserved
 unfolding next
-loop-after-preserved c = let n = goes_next (goal.at.loop-after-preserved c).After-struct_known-1 in (c.loop-after.invariant.0, n.0, n.1)
+loop-after-preserved c = let n = goes_next c in (c.loop-after.invariant.0, n.0, n.1)
 
 pub overflow_add-from : goal.overflow_add-from
 overflow_add-from c = omega (arith, (goes_next c).0)
@@ -42,7 +42,7 @@ loop-after-smaller c =
     fewer a.ended a.piece.now l.log l.after l.from l.out.at _ _ l.out _
     (rw (← l.invariant.0, ← c.goes.ensures) c.loop-after-test.true)
     l.invariant.2.within
-    (stepped (rw (rest_of a.piece.now a.words.now l.from l.invariant.0) at c.record_in_place-answer.ensures) c.tell_answer-told.ensures)
+    (stepped (rw (rest_of a.piece.now a.words.now l.from l.invariant.0) at c.record_in_place-answer.ensures) c.tell_answer-used.ensures c.is_none.ensures c.unwrap_or-from.ensures)
 
 pub returns : goal.returns
 returns c =
