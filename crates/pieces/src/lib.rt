@@ -26,6 +26,8 @@ pub struct Study {
 }
 
 // The study after what was at hand, how many bytes of it are kept at the piece's start, and how many bytes of text stand at the buffer's.
+// Stays: counts beside the buffers. The arrays' types hold the lengths that the promise needs; a `Writer` lends a slice of any length, and a `Vec` may
+// find no memory.
 #[derive(Clone, Copy)]
 pub struct Advanced {
     pub study: Study,
