@@ -31,7 +31,7 @@ fn phase_ends(rt: &impl Print) -> io::Result<()> {
     for tick in 1..=12 {
         let ticked = door.tick();
         door = ticked.door;
-        if !matches!(ticked.transition, DoorTransition::None) {
+        if ticked.transition != DoorTransition::None {
             print!(rt; " {tick}")?;
         }
     }
@@ -54,30 +54,18 @@ fn wraps(rt: &impl Print) -> io::Result<()> {
     Ok(())
 }
 
-fn forward_distances(rt: &impl Print) -> io::Result<()> {
-    for (from, to, expected) in [
-        (10.0, 30.0, 20.0),
-        (90.0, 10.0, 20.0),
-        (50.0, 50.0, 0.0),
-        (0.0, 99.0, 99.0),
-        (110.0, 30.0, 20.0),
-        (-10.0, 30.0, 40.0),
-    ] {
-        let outcome = outcome(forward_distance(from, to, 100.0), expected);
-        println!(rt; "forward_distance({from}, {to}, 100) = {expected}: {outcome}")?;
-    }
-    Ok(())
-}
-
-fn cyclic_distances(rt: &impl Print) -> io::Result<()> {
-    for (a, b, expected) in [
-        (10.0, 30.0, 20.0),
-        (90.0, 10.0, 20.0),
-        (0.0, 50.0, 50.0),
-        (0.0, 51.0, 49.0),
-    ] {
-        let outcome = outcome(cyclic_distance(a, b, 100.0), expected);
-        println!(rt; "cyclic_distance({a}, {b}, 100) = {expected}: {outcome}")?;
+// A distance of two places on a circle of 100, by its name.
+fn distances<F: Fn(f64, f64, f64) -> f64>(
+    rt: &impl Print,
+    name: &str,
+    distance: F,
+    cases: &[(f64, f64, f64)],
+) -> io::Result<()>
+    requires { F.IsAlwaysCallable distance }
+{
+    for (from, to, expected) in cases {
+        let outcome = outcome(distance(*from, *to, 100.0), *expected);
+        println!(rt; "{name}({from}, {to}, 100) = {expected}: {outcome}")?;
     }
     Ok(())
 }
@@ -86,6 +74,20 @@ fn main(rt: HostRuntime) -> io::Result<()> {
     formulas(&rt)?;
     phase_ends(&rt)?;
     wraps(&rt)?;
-    forward_distances(&rt)?;
-    cyclic_distances(&rt)
+    let forward = [
+        (10.0, 30.0, 20.0),
+        (90.0, 10.0, 20.0),
+        (50.0, 50.0, 0.0),
+        (0.0, 99.0, 99.0),
+        (110.0, 30.0, 20.0),
+        (-10.0, 30.0, 40.0),
+    ];
+    distances(&rt, "forward_distance", forward_distance, &forward)?;
+    let cyclic = [
+        (10.0, 30.0, 20.0),
+        (90.0, 10.0, 20.0),
+        (0.0, 50.0, 50.0),
+        (0.0, 51.0, 49.0),
+    ];
+    distances(&rt, "cyclic_distance", cyclic_distance, &cyclic)
 }

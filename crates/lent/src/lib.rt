@@ -2,11 +2,10 @@
 #![tactic(auto)]
 
 ghost use Rattle.std.specs.Prelude.{◌≡◌, true};
-ghost use Rattle.record.specs.Record.{Gives, record_of};
 ghost use Rattle.report.specs.Report.{report_of};
 ghost use Rattle.lent.specs.Lent.{Lent, LentCalls};
 
-use record::{Answer, Recorded, record};
+use record::{Answer, record};
 use report::{Reported, report};
 use world::World;
 
@@ -19,19 +18,7 @@ pub fn record_in_place(world: &mut World, words: &[u32], log: &mut [u32]) -> Ans
     r.answer
 }
 
-// One turn of a program that keeps a world: it stands in a local, is lent to the call, and is then what the call left there.
-pub fn turn(world: World, words: &[u32], log: &mut [u32]) -> Recorded
-    ensures { Gives result log.new (record_of world words.now log.old) }
-{
-    let mut kept = world;
-    let answer = record_in_place(&mut kept, words, log);
-    Recorded {
-        answer,
-        world: kept,
-    }
-}
-
-// The report of a lent world and a log's words: the by-value report, and the world left alone.
+// The report of a lent world and a log's words: the by-value report, and the world left alone. An entry of the library: no crate here calls it.
 pub fn report_lent(world: &World, words: &[u32]) -> Reported
     ensures { result ≡ report_of world.now words.now }
 {

@@ -1,6 +1,7 @@
 -- The loop over a piece's records: what it still does is what the definition still does. Assumes nothing.
 use mathlib.Core.Path.{◌≡◌, refl, ap, ◌∙◌}
 use mathlib.Core.Bool.{Bool, true, false, not, cond}
+use Rattle.std.specs.Prelude.{Option, is_some, unwrap_or, Ok, Err}
 use mathlib.Core.List.{List, [], ◌∷◌, ◌++◌, append-nil}
 use Prim.Native.Nat.{ℕ, zero, suc, ◌+◌, ◌-◌, ◌*◌, ◌/◌, ◌<◌, ◌≤◌, min}
 use native.Mathlib.Omega.{arith}
@@ -15,17 +16,16 @@ use Rattle.log_writes.specs.Told.{Told as Prints}
 use Rattle.log_writes.specs.declared.Writer.{Writer}
 use Rattle.log_writes.proofs.Writing.{wrote_length, wrote_fits}
 use Rattle.log_writes.proofs.Telling.{told_none, told_also}
-use Rattle.record.specs.Record as Record
-use Rattle.record.specs.Record.{Outcome, record_of, is_accepted, used_of}
-use Rattle.record.specs.declared.Recorded.{Recorded}
+use Rattle.world.specs.declared.World.{World}
+use Rattle.record.specs.Record.{Answer, Outcome, record_of, is_accepted, used_of}
+use Rattle.lent.specs.Lent.{Lent}
 use Rattle.conditions.specs.Conditions.{Kept, FirstCondition}
 use Rattle.conditions.proofs.Answering.{first_condition}
 use Rattle.laws.specs.Numbers.{bit}
 use Rattle.report.specs.declared.Counts.{Counts}
 use Rattle.study_text.specs.Text.{words_of}
 use Rattle.study_text.proofs.Keeping.{take_min}
-use Rattle.play.specs.declared.Told.{Told}
-use Rattle.play.specs.Play.{told, counts_after, ending, Tells}
+use Rattle.play.specs.Play.{told, counts_after, uses, ending, Tells}
 use Rattle.pieces.specs.Pieces.{Playing, next_record, ready, goes, play_to, ends, closed, close, advanced, playing, Gives}
 use Rattle.pieces.specs.Parts.{IsEmpty, Reached, ClosesBy, Closes}
 use Rattle.pieces.specs.declared.Study.{Study}
@@ -82,20 +82,29 @@ pub record Stepped (o : Outcome) (c : Counts) (out : Writer ℕ) (s : Study) (n 
   pub over : s.over ≡ not (is_accepted o.answer)
   pub text : Prints out (told o.answer o.log) out'
 
--- what the code holds then: the world of what the call made, and what is told of its answer
-abbrev pub holds : Recorded → Counts → Bool → Study
-holds made c over = record { world = made.world; counts = c; over = over }
+-- by what the lent call gave, and what is told of its answer
+used_words : (a : Answer) → unwrap_or (uses a) 0 ≡ used_of a
+used_words (Ok a) = refl
+used_words (Err r) = refl
 
-pub stepped : (o : Outcome) (made : Recorded) (log' : List ℕ) (out out' : Writer ℕ) (c : Counts) (t : Told)
-    → Record.Gives made log' o
-    → Tells made.answer log' c out t out'
-    → Stepped o c out (holds made t.counts t.refused) t.used out'
-stepped o made log' out out' c t g k = record {
-  world = g.world;
-  counts = rw (← g.answer, ← g.log) k.counts;
-  used = rw (← g.answer) k.used;
-  over = rw (← g.answer) k.refused;
-  text = rw (← g.answer, ← g.log) k.text;
+over_is : (a : Answer) (over : Bool) → is_some (uses a) ≡ not over → over ≡ not (is_accepted a)
+over_is (Ok a) true e = e
+over_is (Ok a) false e = refl
+over_is (Err r) true e = refl
+over_is (Err r) false e = e
+
+pub stepped : {w w' : World} {words lent log' : List ℕ} {answer : Answer} {used : Option ℕ} {out out' : Writer ℕ} {c c' : Counts} {over : Bool} {n : ℕ}
+    → Lent w words lent answer w' log'
+    → Tells answer log' c out used c' out'
+    → is_some used ≡ not over
+    → n ≡ unwrap_or used 0
+    → Stepped (record_of w words lent) c out (record { world = w'; counts = c'; over = over }) n out'
+stepped {answer = a} {over = over} l k e f = record {
+  world = l.world;
+  counts = rw (← l.answer, ← l.log) k.counts;
+  used = rw (← l.answer, f, k.used) (used_words a);
+  over = rw (← l.answer) (over_is a over (rw k.used at e));
+  text = rw (← l.answer, ← l.log) k.text;
 }
 
 -- the words behind a place of the piece, and how many

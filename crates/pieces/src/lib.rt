@@ -7,10 +7,9 @@ ghost use Rattle.pieces.specs.Pieces.{Gives, advanced, playing, play_to, fresh};
 ghost use Rattle.pieces.specs.Pieces.{goes as goes_on};
 ghost use Rattle.pieces.specs.Parts.{IsEmpty, Reached, Closes};
 
-use lent::turn;
+use lent::record_in_place;
 use log_writes::Writer;
 use play::{finish, tell_answer};
-use record::{Accepted, Recorded};
 use report::Counts;
 use study_numbers::Text;
 use study_text::{keep, words_of};
@@ -22,10 +21,13 @@ use world::empty::empty;
 pub struct Study {
     pub world: World,
     pub counts: Counts,
+    // Stays: one bit and no enum. World and counts are in both of its variants, and the loop, the tape's end and the program ask for this alone.
     pub over: bool,
 }
 
 // The study after what was at hand, how many bytes of it are kept at the piece's start, and how many bytes of text stand at the buffer's.
+// Stays: counts beside the buffers. The arrays' types hold the lengths that the promise needs; a `Writer` lends a slice of any length, and a `Vec` may
+// find no memory.
 #[derive(Clone, Copy)]
 pub struct Advanced {
     pub study: Study,
@@ -58,8 +60,7 @@ struct Played {
     from: usize,
 }
 
-// The records of the piece, whose words these are, as long as the next one is ready and its text has room. What a call made stays where it is, and its
-// world is handed to the next call.
+// The records of the piece, whose words these are, as long as the next one is ready and its text has room.
 fn play_words(
     study: Study,
     piece: &[u8],
@@ -72,33 +73,15 @@ fn play_words(
     requires empty { IsEmpty out.old }
     ensures { Reached result piece.now out.old log.new out.new (play_to (2 + length piece.now) ended (playing study log.old piece.now)) }
 {
-    let nothing = Ok(Accepted {
-        used: 0,
-        written: 0,
-    });
-    let begun = study.world;
-    let mut made = Recorded {
-        answer: nothing,
-        world: begun,
-    };
-    let mut counts = study.counts;
-    let mut over = study.over;
+    let mut after = study;
     let mut from: usize = 0;
     // Stays: a while: its condition asks what was told last, and a record says itself how many words it used.
-    while goes(ended, over, words.len() - from, out.at) {
-        made = turn(made.world, &words[from..], log);
-        let answer = made.answer;
-        let told = tell_answer(answer, counts, log, out);
-        counts = told.counts;
-        over = told.refused;
-        from += told.used;
+    while goes(ended, after.over, words.len() - from, out.at) {
+        let answer = record_in_place(&mut after.world, &words[from..], log);
+        let used = tell_answer(answer, &mut after.counts, log, out);
+        after.over = used.is_none();
+        from += used.unwrap_or(0);
     }
-    let world = made.world;
-    let after = Study {
-        world,
-        counts,
-        over,
-    };
     Played { study: after, from }
 }
 

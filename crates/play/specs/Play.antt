@@ -1,17 +1,15 @@
 -- A study, record by record, and what is printed of it.
-use Rattle.std.specs.Prelude.{◌≡◌, not, List, ℕ, zero, suc, take, Ok, Err}
+use Rattle.std.specs.Prelude.{◌≡◌, List, ℕ, zero, suc, take, Option, Some, None, Ok, Err}
 use Rattle.world.specs.declared.World.{World}
 use Rattle.world.specs.declared.refusal.Refusal.TheVariants.{CutShort}
 use Rattle.log_writes.specs.Told.{Told as Prints}
 use Rattle.log_writes.specs.declared.Writer.{Writer}
-use Rattle.record.specs.Record.{is_accepted, used_of}
 use Rattle.record.specs.Record.{Answer}
 use Rattle.report.specs.Report.{count_more, counted_report}
 use Rattle.report.specs.declared.Counts.{Counts}
 use Rattle.report.specs.Report.{Reported}
 use Rattle.study_numbers.specs.NumberText.{word_lines}
 use Rattle.study_text.specs.Text.{report_line, refused_line}
-use Rattle.play.specs.declared.Told.{Told}
 
 -- ---- a record
 
@@ -25,11 +23,15 @@ abbrev pub counts_after : Answer → List ℕ → Counts → Counts
 counts_after (Ok a) log c = count_more c (take a.written log)
 counts_after (Err r) log c = c
 
+-- the words that an accepted record used
+abbrev pub uses : Answer → Option ℕ
+uses (Ok a) = Some a.used
+uses (Err r) = None
+
 -- what the code tells of an answer and the log after it: the text is told to `out`, and `out'` is the writer then
-pub record Tells (a : Answer) (log : List ℕ) (c : Counts) (out : Writer ℕ) (t : Told) (out' : Writer ℕ) : Type 0 where
-  pub counts : t.counts ≡ counts_after a log c
-  pub used : t.used ≡ used_of a
-  pub refused : t.refused ≡ not (is_accepted a)
+pub record Tells (a : Answer) (log : List ℕ) (c : Counts) (out : Writer ℕ) (words : Option ℕ) (c' : Counts) (out' : Writer ℕ) : Type 0 where
+  pub counts : c' ≡ counts_after a log c
+  pub used : words ≡ uses a
   pub text : Prints out (told a log) out'
 
 -- ---- the end of a tape

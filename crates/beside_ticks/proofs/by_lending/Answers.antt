@@ -5,13 +5,13 @@ use Rattle.beside_ticks.proofs.Playing.{within, stays, again}
 use Rattle.beside_ticks.proofs.by_lending.Goals as goal
 
 pub overflow_add-used : goal.overflow_add-used
-overflow_add-used c = omega (arith, within _ _ _ _ c.turn-made.ensures.answer c.loop.invariant.1 c.told_by-told.ensures.0)
+overflow_add-used c = omega (arith, within _ _ _ _ c.record_in_place.ensures.answer c.loop.invariant.1 c.told_by-told.ensures.0)
 
 pub loop-preserved : goal.loop-preserved
 unfolding plus
 loop-preserved c =
     let l = c.loop in
-    let o = c.turn-made.ensures in
+    let o = c.record_in_place.ensures in
     let t = c.told_by-told.ensures in (
       search rules,
       within _ _ _ _ o.answer l.invariant.1 t.0,

@@ -5,4 +5,4 @@ use Rattle.beside_ticks.proofs.by_lending.Given as goal
 
 abbrev pub invariant-loop : goal.invariant-loop
 invariant-loop l =
-    (l.counter ≤ l.records) × (l.used ≤ length l.words) × (length l.log ≡ length l.initial.log) × Reached (played_to l.words l.initial.log l.counter) l.made.world l.log l.used l.written
+    (l.counter ≤ l.records) × (l.used ≤ length l.words) × (length l.log ≡ length l.initial.log) × Reached (played_to l.words l.initial.log l.counter) l.world l.log l.used l.written
