@@ -16,9 +16,8 @@ use Rattle.world.specs.declared.LineKind.TheVariants.{Linear, Loop}
 use Rattle.std.specs.declared.option.Option.{Option}
 use Rattle.std.specs.declared.option.Option.TheVariants.{None, Some}
 use Rattle.sorted.specs.Sorted.{sorted_stops}
-use Rattle.trips.specs.Spans.{span_of, manual_span}
+use Rattle.trips.specs.Spans.{range, range_between, seam, span_of, manual_span}
 use Rattle.trips.specs.declared.span.Span.{Span}
-use Rattle.trips.specs.declared.span.Span.TheVariants.{Range, Seam}
 use Rattle.trips.specs.declared.Trip.{Trip}
 use Rattle.trips.specs.declared.Trip.TheVariants.{Rests, Drives, GoesTo, Repositions}
 use Rattle.movement_system.specs.Passing.{start_of, end_of, between, emit_range, lo_threshold, passed}
@@ -54,10 +53,10 @@ module _ (stops : List Float) (n : ℕ) (target : Option ℕ) where
   abbrev Fits : Span → Type 0
   Fits span = length (passed span stops ss target) ≤ n
 
-  range_fits : (lo hi : Float) → Fits (Range lo hi)
+  range_fits : (lo hi : Float) → Fits (range lo hi)
   range_fits lo hi = omega (arith, range_size lo hi false, end_most stops n (sub binary64 hi epsilon))
 
-  seam_fits : (old circumference new : Float) → lt new old ≡ true → Fits (Seam old circumference new)
+  seam_fits : (old circumference new : Float) → lt new old ≡ true → Fits (seam old circumference new)
   seam_fits old circumference new h =
       omega (
         arith,
@@ -73,7 +72,7 @@ module _ (stops : List Float) (n : ℕ) (target : Option ℕ) where
   span_fits Linear old new = both Fits (lt old new) (range_fits old new) (range_fits new old)
   span_fits (Loop circumference headway) old new = cases Fits (lt new old) (seam_fits old circumference new) (λ e. range_fits old new)
 
-  ranges_fit : (old new : Float) → Fits (cond (le old new) (Range old new) (Range new old))
+  ranges_fit : (old new : Float) → Fits (range_between old new)
   ranges_fit old new = both Fits (le old new) (range_fits old new) (range_fits new old)
 
   manual_fits : (kind : LineKind) (old new velocity : Float) → Fits (manual_span kind old new velocity)

@@ -5,41 +5,62 @@ ghost use Rattle.trips.specs.Spans as Spans;
 use crate::is_loop;
 use world::LineKind;
 
-// What a tick sweeps over: one range, or the two parts of a seam.
+// A range's ends, and whether a stop at the lower one counts.
+#[derive(Clone, Copy)]
+pub struct Ends {
+    pub lo: f64,
+    pub hi: f64,
+    pub inclusive: bool,
+}
+
+// What a tick sweeps over: one range, or the two of a seam.
 #[derive(Clone, Copy)]
 pub enum Span {
-    Range {
-        lo: f64,
-        hi: f64,
-    },
-    Seam {
-        old: f64,
-        circumference: f64,
-        new: f64,
-    },
+    Range(Ends),
+    Seam(Ends, Ends),
+}
+
+// A range above its lower end.
+fn above(lo: f64, hi: f64) -> Ends
+    ensures { result ≡ Spans.above lo hi }
+{
+    Ends {
+        lo,
+        hi,
+        inclusive: false,
+    }
+}
+
+// The range between two places, the lower one first.
+fn range(lo: f64, hi: f64) -> Span
+    ensures { result ≡ Spans.range lo hi }
+{
+    Span::Range(above(lo, hi))
+}
+
+// A seam's two ranges: to the circle's end, and from 0 on, a stop at 0 too.
+fn seam(old: f64, circumference: f64, new: f64) -> Span
+    ensures { result ≡ Spans.seam old circumference new }
+{
+    let from_0 = Ends {
+        lo: 0.0,
+        hi: new,
+        inclusive: true,
+    };
+    Span::Seam(above(old, circumference), from_0)
 }
 
 // run, `crossed_seam` and what follows.
+// Stays: beside manual_span. On a line run asks `old < new` and tick_manual `old <= new`, by which the ends 0.0 and -0.0 come out the other way
+// round; on a loop a Manual car may go back, and its ends are put in order.
 pub fn span_of(kind: LineKind, old: f64, new: f64) -> Span
     ensures { result ≡ Spans.span_of kind old new }
 {
     match kind {
-        LineKind::Linear => {
-            if old < new {
-                return Span::Range { lo: old, hi: new };
-            }
-            Span::Range { lo: new, hi: old }
-        }
-        LineKind::Loop { circumference, .. } => {
-            if new < old {
-                return Span::Seam {
-                    old,
-                    circumference,
-                    new,
-                };
-            }
-            Span::Range { lo: old, hi: new }
-        }
+        LineKind::Linear if old < new => range(old, new),
+        LineKind::Linear => range(new, old),
+        LineKind::Loop { circumference, .. } if new < old => seam(old, circumference, new),
+        LineKind::Loop { .. } => range(old, new),
     }
 }
 
@@ -48,9 +69,9 @@ fn range_between(old: f64, new: f64) -> Span
     ensures { result ≡ Spans.range_between old new }
 {
     if old <= new {
-        return Span::Range { lo: old, hi: new };
+        return range(old, new);
     }
-    Span::Range { lo: new, hi: old }
+    range(new, old)
 }
 
 // tick_manual, `crossed_seam` and what follows.
@@ -58,17 +79,10 @@ pub fn manual_span(kind: LineKind, old: f64, new: f64, velocity: f64) -> Span
     ensures { result ≡ Spans.manual_span kind old new velocity }
 {
     match kind {
-        LineKind::Linear => range_between(old, new),
-        LineKind::Loop { circumference, .. } => {
-            if (new < old) & (velocity >= 0.0) {
-                return Span::Seam {
-                    old,
-                    circumference,
-                    new,
-                };
-            }
-            range_between(old, new)
+        LineKind::Loop { circumference, .. } if (new < old) & (velocity >= 0.0) => {
+            seam(old, circumference, new)
         }
+        _ => range_between(old, new),
     }
 }
 
