@@ -20,12 +20,6 @@ impl fmt::Display for Number {
     }
 }
 
-impl From<u32> for Number {
-    fn from(number: u32) -> Number {
-        Number(number.into())
-    }
-}
-
 // A float's bits. Any NaN is the positive quiet one.
 // Stays: `float::number_bits` is 0 at a NaN, as it is at a zero; what is printed tells the two apart.
 fn bits(x: f64) -> u64 {
@@ -91,9 +85,9 @@ impl fmt::Display for Door {
             } => write!(
                 f,
                 "1,{},{},{}",
-                Number::from(ticks_remaining),
-                Number::from(open_duration),
-                Number::from(close_duration)
+                Number(ticks_remaining.into()),
+                Number(open_duration.into()),
+                Number(close_duration.into())
             ),
             DoorState::Open {
                 ticks_remaining,
@@ -101,13 +95,13 @@ impl fmt::Display for Door {
             } => write!(
                 f,
                 "2,{},{}",
-                Number::from(ticks_remaining),
-                Number::from(close_duration)
+                Number(ticks_remaining.into()),
+                Number(close_duration.into())
             ),
             DoorState::Closing { ticks_remaining } => write!(
                 f,
                 "3,{}",
-                Number::from(ticks_remaining)
+                Number(ticks_remaining.into())
             ),
         }
     }
