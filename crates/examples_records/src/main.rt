@@ -54,6 +54,8 @@ impl fmt::Display for Refused {
 }
 
 // Record after record from an empty world. A tape of no word has one record, which is cut short.
+// Stays: a loop here and one in examples_ticks. That one writes each tick, so it may fail otherwise, and an empty tape is none to it: a closure with its
+// bound and its own error would say more than the four lines that the two share.
 #[tactic(auto, using(conditions::proofs::Taking::uses_some, conditions::proofs::Taking::uses_within))]
 fn play(tape: &[u32]) -> Result<Ended, Refused> {
     let mut log = [0u32; 2048];
@@ -82,6 +84,7 @@ fn play(tape: &[u32]) -> Result<Ended, Refused> {
     }
 }
 
+// Stays: here and in examples_ticks. A crate for these four lines would need a contract that says each word, two wrong programs and a test of its memory.
 fn words_of(alloc: Global, tape: &str) -> Result<Vec<u32>> {
     tape.split_whitespace()
         .map(|word| u32::from_str_radix(word, 16).context(format_args!("reading {word:?}")))

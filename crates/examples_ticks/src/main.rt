@@ -5,20 +5,16 @@
 mod play; // a tape's records
 mod show; // a tick's lines
 
-use anyhow::{Result, bail};
+use anyhow::{Context, Result};
 use play::play;
 use std::alloc::Global;
 use std::io::{BufRead, BufReader, BufWriter, Write};
 
+// Stays: here and in examples_records. A crate for these four lines would need a contract that says each word, two wrong programs and a test of its memory.
 fn words_of(alloc: Global, tape: &str) -> Result<Vec<u32>> {
-    let mut words = Vec::new(alloc);
-    for word in tape.split_ascii_whitespace() {
-        let Ok(value) = u32::from_str_radix(word, 16) else {
-            bail!("no word in hexadecimal: {word:?}");
-        };
-        words.push(value)?;
-    }
-    Ok(words)
+    tape.split_whitespace()
+        .map(|word| u32::from_str_radix(word, 16).context(format_args!("reading {word:?}")))
+        .try_collect(alloc)
 }
 
 // A heading as it is, or a tape's name and what its records give.

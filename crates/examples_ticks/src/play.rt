@@ -6,6 +6,7 @@ use std::io::Write;
 use world::empty::empty;
 
 // Record after record from an empty world, up to a refusal. A tick writes a word at least, and no other record writes one.
+// Stays: a loop here and one in examples_records, as it says there.
 #[tactic(auto, using(conditions::proofs::Taking::uses_some, conditions::proofs::Taking::uses_within, conditions::proofs::Taking::writes_within, conditions::proofs::Taking::same_length, conditions::proofs::Taking::writes_all))]
 pub(crate) fn play<W: Write>(out: &mut W, log: &mut [u32], tape: &[u32]) -> io::Result<()> {
     let mut world = empty();

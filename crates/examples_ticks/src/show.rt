@@ -22,6 +22,7 @@ impl fmt::Display for Number {
 }
 
 // A float's bits. Any NaN is the positive quiet one.
+// Stays: `float::number_bits` is 0 at a NaN, as it is at a zero; what is printed tells the two apart.
 fn bits(x: f64) -> u64 {
     if x.is_nan() {
         0x7ff8_0000_0000_0000
@@ -70,10 +71,6 @@ impl fmt::Display for Phase {
     }
 }
 
-fn ticks(count: u32) -> Number {
-    Number(count.into())
-}
-
 // The door's number in the Rust's order, and its fields.
 #[derive(Drop)]
 struct Door(DoorState);
@@ -89,15 +86,24 @@ impl fmt::Display for Door {
             } => write!(
                 f,
                 "1,{},{},{}",
-                ticks(ticks_remaining),
-                ticks(open_duration),
-                ticks(close_duration)
+                Number(ticks_remaining.into()),
+                Number(open_duration.into()),
+                Number(close_duration.into())
             ),
             DoorState::Open {
                 ticks_remaining,
                 close_duration,
-            } => write!(f, "2,{},{}", ticks(ticks_remaining), ticks(close_duration)),
-            DoorState::Closing { ticks_remaining } => write!(f, "3,{}", ticks(ticks_remaining)),
+            } => write!(
+                f,
+                "2,{},{}",
+                Number(ticks_remaining.into()),
+                Number(close_duration.into())
+            ),
+            DoorState::Closing { ticks_remaining } => write!(
+                f,
+                "3,{}",
+                Number(ticks_remaining.into())
+            ),
         }
     }
 }
