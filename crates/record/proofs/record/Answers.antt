@@ -57,6 +57,7 @@ pub loop-i-init : goal.loop-i-init
 unfolding run_to
 loop-i-init c = (search rules, record { left = refl; told = told_none }, search rules)
 
+-- Stays: the look at a trip is said in both cases: each has a record type of its own, and that of the lamps' choice, which both have, has no name in `Goals` that a lemma could take.
 pub loop-i-preserved : goal.loop-i-preserved
 unfolding plus
 loop-i-preserved c =
