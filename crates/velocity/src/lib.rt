@@ -64,6 +64,8 @@ pub fn new_velocity(
 }
 
 // tick_manual's new_vel: the velocity goes towards the manual speed `target`, by rate * dt at most.
+// Stays: the parameters are the values that tick_manual computes with, by its names and in the order of new_velocity. A struct of them would be made for
+// this call alone.
 #[tactic(auto, unfolding(crate::specs::Velocity::manual_velocity))]
 pub fn manual_velocity(
     target: f64,
