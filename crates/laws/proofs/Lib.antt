@@ -1,3 +1,4 @@
 pub mod Bools
 pub mod Choices
 pub mod Counting
+pub mod Folding

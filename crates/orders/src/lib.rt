@@ -7,7 +7,6 @@ ghost use Rattle.orders.specs.Orders as Orders;
 use changes::{Changed, ordered, row_of};
 use sound_rows::unloaded;
 use world::refusal::Refusal;
-use world::with::with_orders;
 use world::{Car, ElevatorPhase, World};
 
 fn can_go(phase: ElevatorPhase) -> bool
@@ -19,14 +18,16 @@ fn can_go(phase: ElevatorPhase) -> bool
 fn sent(car: Car, stop: u8, reposition: bool) -> Car
     ensures { result ≡ Orders.sent car stop reposition }
 {
-    let mode = car.service_mode;
-    let speed = car.manual_target_velocity;
-    let phase = if reposition {
-        ElevatorPhase::Repositioning(stop)
-    } else {
-        ElevatorPhase::MovingToStop(stop)
-    };
-    with_orders(car, phase, mode, reposition, Some(stop), speed)
+    Car {
+        phase: if reposition {
+            ElevatorPhase::Repositioning(stop)
+        } else {
+            ElevatorPhase::MovingToStop(stop)
+        },
+        repositioning: reposition,
+        target_stop: Some(stop),
+        ..car
+    }
 }
 
 // Kind 5.

@@ -2,7 +2,7 @@
 // never make.
 #![tactic(auto)]
 
-ghost use Rattle.std.specs.Prelude.{◌≡◌, ◌||◌, false};
+ghost use Rattle.std.specs.Prelude.{◌≡◌, Bool, ◌||◌, false};
 ghost use Rattle.std.specs.List.{fold};
 ghost use Rattle.sound_rows.specs.Rows as Rows;
 
@@ -42,14 +42,19 @@ fn rider_phase_unloaded(cars: usize, phase: RiderPhase) -> bool
     }
 }
 
+// Whether one of the items is as asked: no test ends the search early, so it goes over several at a time.
+pub fn one_of<T: Copy, F: Fn(T) -> bool>(items: &[T], is: F) -> bool
+    requires { F.IsAlwaysCallable is }
+    ensures { (p : T → Bool) → ((x : T) (r : Bool) → F.post is x r → r ≡ p x) → result ≡ fold (λ found x. found || p x) false items.now }
+{
+    items.iter().fold(false, |found, item| found | is(*item))
+}
+
 // Whether one of the numbers is not loaded.
 fn one_unloaded(numbers: &[u8], loaded: usize) -> bool
     ensures { result ≡ fold (λ found n. found || Rows.unloaded loaded n) false numbers.now }
 {
-    // no test ends the search early: so it goes over several numbers at a time
-    numbers
-        .iter()
-        .fold(false, |found, n| found | unloaded(loaded, *n))
+    one_of(numbers, |n| unloaded(loaded, n))
 }
 
 // Whether a line has more listed stops than its table holds, or one that is not loaded.

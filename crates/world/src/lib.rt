@@ -7,7 +7,6 @@ ghost use Rattle.world.specs.Tables.{of_none, listed, pushed};
 
 pub mod empty; // a new car, the empty world
 pub mod refusal; // the refusals and their numbers
-pub mod with; // a car with some of its fields changed
 
 use door::{DoorCommand, DoorState};
 
@@ -22,7 +21,8 @@ pub enum LineKind {
 }
 
 // A table of a fixed size, or a queue: its items, of which the first `count` are there.
-// Stays: an array with its count, and no Vec. A world goes by value, and no call may run out of memory.
+// Stays: an array with its count, and no Vec: a world goes by value, and no call may run out of memory. Nor an ArrayVec of the
+// library's `arrayvec`: it is not Copy, and could not hold a count above its size, which refusal 0 finds in a lent world.
 #[derive(Clone, Copy)]
 pub struct Table<T, const N: usize> {
     pub items: [T; N],
