@@ -42,19 +42,12 @@ fn rider_phase_unloaded(cars: usize, phase: RiderPhase) -> bool
     }
 }
 
-// Whether one of the items is as asked: no test ends the search early, so it goes over several at a time.
-pub fn one_of<T: Copy, F: Fn(T) -> bool>(items: &[T], is: F) -> bool
-    requires { F.IsAlwaysCallable is }
-    ensures { (p : T → Bool) → ((x : T) (r : Bool) → F.post is x r → r ≡ p x) → result ≡ fold (λ found x. found || p x) false items.now }
+// Whether one of the items passes the test. No answer ends the search early: so it goes over several items at a time.
+pub fn one_of<T: Copy, F: Fn(T) -> bool>(items: &[T], test: F) -> bool
+    requires { F.IsAlwaysCallable test }
+    ensures { (p : T → Bool) → ((x : T) (r : Bool) → F.post test x r → r ≡ p x) → result ≡ fold (λ found x. found || p x) false items.now }
 {
-    items.iter().fold(false, |found, item| found | is(*item))
-}
-
-// Whether one of the numbers is not loaded.
-fn one_unloaded(numbers: &[u8], loaded: usize) -> bool
-    ensures { result ≡ fold (λ found n. found || Rows.unloaded loaded n) false numbers.now }
-{
-    one_of(numbers, |n| unloaded(loaded, n))
+    items.iter().fold(false, |found, item| found | test(*item))
 }
 
 // Whether a line has more listed stops than its table holds, or one that is not loaded.
@@ -62,11 +55,11 @@ fn one_unloaded(numbers: &[u8], loaded: usize) -> bool
 pub fn line_broken(stops: usize, line: Line) -> bool
     ensures { result ≡ Rows.line_broken stops line }
 {
-    let count = line.serves.stops.count;
-    if 64 < count {
+    let listed = line.serves.stops;
+    if 64 < listed.count {
         return true;
     }
-    one_unloaded(&line.serves.stops.items[..count], stops)
+    one_of(listed.as_slice(), |s| unloaded(stops, s))
 }
 
 // Whether a car has a queue, a counter or a number that records never make.
@@ -74,8 +67,8 @@ pub fn line_broken(stops: usize, line: Line) -> bool
 pub fn car_broken(lines: usize, stops: usize, car: Car) -> bool
     ensures { result ≡ Rows.car_broken lines stops car }
 {
-    let count = car.destination_queue.count;
-    if 8 < count {
+    let queue = car.destination_queue;
+    if 8 < queue.count {
         return true;
     }
     (8 < car.door_command_queue.count)
@@ -83,7 +76,7 @@ pub fn car_broken(lines: usize, stops: usize, car: Car) -> bool
         | unloaded(lines, car.line)
         | phase_unloaded(stops, car.phase)
         | option_unloaded(stops, car.target_stop)
-        | one_unloaded(&car.destination_queue.items[..count], stops)
+        | one_of(queue.as_slice(), |s| unloaded(stops, s))
 }
 
 // Whether a rider names a stop or a car that is not loaded.

@@ -2,7 +2,7 @@
 // It goes in by value and comes back. What lies past a table's count means nothing.
 #![tactic(auto)]
 
-ghost use Rattle.std.specs.Prelude.{◌≡◌};
+ghost use Rattle.std.specs.Prelude.{◌≡◌, length, min};
 ghost use Rattle.world.specs.Tables.{of_none, listed, pushed};
 
 pub mod empty; // a new car, the empty world
@@ -40,7 +40,8 @@ impl<T: Copy, const N: usize> Table<T, N> {
 
     // The items that are there. A count above the size is taken as the size.
     pub fn as_slice(&self) -> &[T]
-        ensures { result.now ≡ listed self.now }
+        ensures items { result.now ≡ listed self.now }
+        ensures len { length result.now ≡ min self.now.count N }
     {
         &self.items[..self.count.min(N)]
     }
