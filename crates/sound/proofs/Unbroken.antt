@@ -1,14 +1,11 @@
 -- What a world that is not broken holds. Assumes nothing.
-use mathlib.Core.Path.{◌≡◌, refl, ap, ◌∙◌}
-use mathlib.Core.Bool.{Bool, true, false, ◌||◌, or_comm}
-use Prim.Native.Nat.{◌≤◌, ◌<◌, ◌^◌, min}
-use native.Mathlib.Omega.{arith}
+use mathlib.Core.Path.{◌≡◌}
+use mathlib.Core.Bool.{false, ◌||◌}
+use Prim.Native.Nat.{◌≤◌, ◌<◌, ◌^◌}
 use lib.Dec.{leb, ltb}
 use borrow.Author.Tests.{ltb-false, leb-false}
 use Rattle.laws.proofs.Bools.{or_left, or_right}
-use Rattle.sound_rows.specs.Rows.{any_to, line_broken, rider_broken}
-use Rattle.sound.specs.Sound.{calls_unloaded, counts_broken, broken}
-use Rattle.world.specs.World.{line_at, rider_at}
+use Rattle.sound.specs.Sound.{counts_broken}
 use Rattle.world.specs.declared.World.{World}
 
 -- the counts of a world whose counts are not broken

@@ -1,13 +1,12 @@
 // Refusal 0: whether a lent world has a count, a queue, a counter or a number that records never make.
 #![tactic(auto)]
 
-ghost use Rattle.std.specs.Prelude.{◌≡◌, ◌||◌, false};
+ghost use Rattle.std.specs.Prelude.{◌≡◌, Bool, ◌||◌, false};
 ghost use Rattle.std.specs.List.{fold};
-ghost use Rattle.sound_rows.specs.Rows as Rows;
 ghost use Rattle.sound.specs.Sound as Sound;
 
 use sound_rows::{car_broken, line_broken, rider_broken};
-use world::{Car, Line, Rider, World};
+use world::World;
 
 fn calls_unloaded(stops: usize, calls: u64) -> bool
     ensures { result ≡ Sound.calls_unloaded stops calls }
@@ -18,28 +17,12 @@ fn calls_unloaded(stops: usize, calls: u64) -> bool
     1u64 << stops <= calls
 }
 
-fn lines_broken(stops: usize, lines: &[Line]) -> bool
-    ensures { result ≡ fold (λ found line. found || Rows.line_broken stops line) false lines.now }
+// Whether one of the items passes the test. No answer ends the search early: so it goes over several items at a time.
+fn one_of<T: Copy, F: Fn(T) -> bool>(items: &[T], test: F) -> bool
+    requires { F.IsAlwaysCallable test }
+    ensures { (p : T → Bool) → ((x : T) (r : Bool) → F.post test x r → r ≡ p x) → result ≡ fold (λ found x. found || p x) false items.now }
 {
-    lines
-        .iter()
-        .fold(false, |found, line| found | line_broken(stops, *line))
-}
-
-fn cars_broken(lines: usize, stops: usize, cars: &[Car]) -> bool
-    ensures { result ≡ fold (λ found car. found || Rows.car_broken lines stops car) false cars.now }
-{
-    cars.iter()
-        .fold(false, |found, car| found | car_broken(lines, stops, *car))
-}
-
-fn riders_broken(stops: usize, cars: usize, riders: &[Rider]) -> bool
-    ensures { result ≡ fold (λ found rider. found || Rows.rider_broken stops cars rider) false riders.now }
-{
-    riders.iter().fold(
-        false,
-        |found, rider| found | rider_broken(stops, cars, *rider),
-    )
+    items.iter().fold(false, |found, item| found | test(*item))
 }
 
 #[tactic(auto, unfolding(crate::specs::Sound::counts_broken))]
@@ -62,10 +45,14 @@ pub fn broken(world: &World) -> bool
         return true;
     }
     let stops = world.stops.count;
+    let lines = world.lines.count;
     let cars = world.cars.count;
-    lines_broken(stops, &world.lines.items[..world.lines.count])
-        | cars_broken(world.lines.count, stops, &world.cars.items[..cars])
-        | riders_broken(stops, cars, &world.riders.items[..world.riders.count])
+    one_of(world.lines.as_slice(), |line| line_broken(stops, line))
+        | one_of(world.cars.as_slice(), |car| car_broken(lines, stops, car))
+        | one_of(
+            world.riders.as_slice(),
+            |rider| rider_broken(stops, cars, rider),
+        )
         | calls_unloaded(stops, world.calls.up)
         | calls_unloaded(stops, world.calls.down)
 }

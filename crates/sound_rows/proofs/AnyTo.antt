@@ -1,14 +1,17 @@
--- Whether one of the first items of a list passes a test, by their numbers. Assumes nothing.
-use Rattle.std.proofs.Common.{◌≡◌, ◌≤◌, ℕ, Bool, List, length, get_or, take, refl}
+-- Whether one of a table's items passes a test, by their numbers. Assumes nothing.
+use Rattle.std.proofs.Common.{◌≡◌, ◌≤◌, ℕ, Bool, List, length, get_or, min, refl, arith, length-take}
 use mathlib.Core.Bool.{false, ◌||◌}
 use Rattle.std.specs.List.{fold}
 use Rattle.laws.proofs.Folding.{fold_to}
+use Rattle.world.specs.Tables.{listed}
+use Rattle.world.specs.declared.Table.{Table}
 use Rattle.sound_rows.specs.Rows.{any_to}
 
--- what a loop over them comes to, which looks at each
-abbrev pub or_each : {X : Type 0} → (X → Bool) → List X → Bool
-or_each p = fold (λ found x. found || p x) false
-
-pub any_of_first : {X : Type 0} (p : X → Bool) (xs : List X) (d : X) (n : ℕ) → n ≤ length xs → or_each p (take n xs) ≡ any_to (λ k. p (get_or xs k d)) n
+-- of the items that are there, where their count is not above the table's size
+pub any_of_table : {X : Type 0} {m : ℕ} (p : X → Bool) (t : Table X m) (d : X) {xs : List X} → xs ≡ listed t → length xs ≡ min t.count m → t.count ≤ m
+    → fold (λ found x. found || p x) false xs ≡ any_to (λ k. p (get_or t.items k d)) t.count
 unfolding any_to
-any_of_first p xs d = fold_to (λ found x. found || p x) false xs d (any_to (λ k. p (get_or xs k d))) refl (λ k. refl)
+any_of_table {X} {m} p t d e h few =
+    let all : min t.count m ≡ t.count = omega (arith, few) in
+    let fits : t.count ≤ length t.items = omega (arith, length-take (min t.count m) t.items, rw e at h) in
+    rw (e, all) (fold_to (λ found x. found || p x) false t.items d (any_to (λ k. p (get_or t.items k d))) refl (λ k. refl) t.count fits)

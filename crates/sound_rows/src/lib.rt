@@ -2,7 +2,7 @@
 // never make.
 #![tactic(auto)]
 
-ghost use Rattle.std.specs.Prelude.{◌≡◌, Bool, ◌||◌, false};
+ghost use Rattle.std.specs.Prelude.{◌≡◌, ◌||◌, false};
 ghost use Rattle.std.specs.List.{fold};
 ghost use Rattle.sound_rows.specs.Rows as Rows;
 
@@ -42,12 +42,14 @@ fn rider_phase_unloaded(cars: usize, phase: RiderPhase) -> bool
     }
 }
 
-// Whether one of the items passes the test. No answer ends the search early: so it goes over several items at a time.
-pub fn one_of<T: Copy, F: Fn(T) -> bool>(items: &[T], test: F) -> bool
-    requires { F.IsAlwaysCallable test }
-    ensures { (p : T → Bool) → ((x : T) (r : Bool) → F.post test x r → r ≡ p x) → result ≡ fold (λ found x. found || p x) false items.now }
+// Whether one of the numbers is not loaded. No test ends the search early: so it goes over several numbers at a time.
+// Stays: beside `one_of` of `sound`, of any items and test: here it would be public, and so without the `requires` that its test needs.
+fn one_unloaded(numbers: &[u8], loaded: usize) -> bool
+    ensures { result ≡ fold (λ found n. found || Rows.unloaded loaded n) false numbers.now }
 {
-    items.iter().fold(false, |found, item| found | test(*item))
+    numbers
+        .iter()
+        .fold(false, |found, n| found | unloaded(loaded, *n))
 }
 
 // Whether a line has more listed stops than its table holds, or one that is not loaded.
@@ -59,7 +61,7 @@ pub fn line_broken(stops: usize, line: Line) -> bool
     if 64 < listed.count {
         return true;
     }
-    one_of(listed.as_slice(), |s| unloaded(stops, s))
+    one_unloaded(listed.as_slice(), stops)
 }
 
 // Whether a car has a queue, a counter or a number that records never make.
@@ -76,7 +78,7 @@ pub fn car_broken(lines: usize, stops: usize, car: Car) -> bool
         | unloaded(lines, car.line)
         | phase_unloaded(stops, car.phase)
         | option_unloaded(stops, car.target_stop)
-        | one_of(queue.as_slice(), |s| unloaded(stops, s))
+        | one_unloaded(queue.as_slice(), stops)
 }
 
 // Whether a rider names a stop or a car that is not loaded.
