@@ -36,29 +36,25 @@ fn needing_rider(rider: &Rider, lamps: Lamps, stops: &[f64; 64], number: u8, sto
 }
 
 // What the riders aboard need.
-#[tactic(auto, using(crate::proofs::Needs::no_rider_yet))]
+#[tactic(auto, using(crate::proofs::Needs::each_rider, std::proofs::lemmas::Grind::common_steps))]
 fn riders_need(riders: &Table<Rider, 128>, stops: &[f64; 64], number: u8, stop: f64) -> Lamps
     ensures { result ≡ Arrival.riders_to riders.now.items stops.now number stop (min riders.now.count 128) }
 {
-    let count = riders.count.min(128);
-    let mut lamps = Lamps::NONE;
-    for rider in &riders.items[..count] {
-        lamps = needing_rider(rider, lamps, stops, number, stop);
-    }
-    lamps
+    riders.as_slice().iter().fold(
+        Lamps::NONE,
+        |lamps, rider| needing_rider(rider, lamps, stops, number, stop),
+    )
 }
 
 // What the riders and the queue need.
-#[tactic(auto, using(crate::proofs::Needs::queue_turn))]
+#[tactic(auto, using(crate::proofs::Needs::each_queued, std::proofs::lemmas::Grind::common_steps))]
 fn queue_needs(queue: Queue<u8>, stops: &[f64; 64], riders: Lamps, stop: f64) -> Lamps
     ensures { result ≡ Arrival.queued_to queue stops.now riders stop (min queue.count 8) }
 {
-    let count = queue.count.min(8);
-    let mut lamps = riders;
-    for &s in &queue.items[..count] {
-        lamps = needing(lamps, stop_position(stops, s), stop);
-    }
-    lamps
+    queue.as_slice().iter().fold(
+        riders,
+        |lamps, s| needing(lamps, stop_position(stops, *s), stop),
+    )
 }
 
 // Both where neither is needed.
@@ -72,6 +68,7 @@ fn both_if_none(lamps: Lamps) -> Lamps
 }
 
 // movement.rs, direction_from_remaining_work
+// Stays: riders beside stops: two tables of the world, each lent. A `&World` in their place would not say which of its tables count.
 #[tactic(auto, unfolding(crate::specs::Arrival::direction_from_remaining_work))]
 pub fn direction_from_remaining_work(
     riders: &Table<Rider, 128>,

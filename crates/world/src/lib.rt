@@ -85,6 +85,8 @@ impl Serves {
 }
 
 // A line: its kind, and what it serves.
+// Stays: the stops go beside it through the calls. They are a table of the world, lent, and it is a row of another: a struct of both
+// would be made for each car's turn, and each look-up would read its two fields.
 #[derive(Clone, Copy)]
 pub struct Line {
     pub kind: LineKind,
