@@ -3,8 +3,8 @@ ghost use Rattle.std.specs.Prelude.{◌≡◌};
 ghost use Rattle.world.specs.World.{new_car, empty_car, empty_world};
 
 use crate::{
-    Calls, Car, CarPlan, ElevatorPhase, Lamps, Line, LineKind, Rider, RiderPhase, Serves, ServiceMode,
-    Table, World,
+    Calls, Car, CarPlan, ElevatorPhase, Lamps, Line, LineKind, Rider, RiderPhase, Serves,
+    ServiceMode, Table, World,
 };
 use door::{DoorCommand, DoorState};
 
