@@ -28,6 +28,7 @@ fn with_next<T: Copy, const N: usize>(
 }
 
 // Kind 2.
+// Stays: here and below a function a kind, each of its own table and of its own check of what it names. What they share is `with_next`.
 #[tactic(auto, unfolding(crate::specs::Loads::load_stop))]
 pub fn load_stop(world: World, number: u8, position: f64) -> Changed
     ensures { result ≡ Loads.load_stop world number position }

@@ -8,6 +8,8 @@ use changes::{Changed, ordered};
 use world::{ServiceMode, World};
 
 // Kind 6.
+// Stays: here and below a function a kind, of another field each. What they share is `ordered`; one of the three would take a closure that writes the
+// field, with a contract of its own, at each of its three callers.
 #[tactic(auto, unfolding(crate::specs::Modes::set_mode, changes::specs::Parts::ordered))]
 pub fn set_mode(mut world: World, car: u8, mode: ServiceMode) -> Changed
     ensures { result ≡ Modes.set_mode world car mode }

@@ -39,6 +39,7 @@ pub fn press_hall_call(mut world: World, stop: u8, down: bool) -> Changed
 }
 
 // Kind A.
+// Stays: beside queue_command, as its queue is another field and it names a stop. What they share are `ordered` and `pushed`.
 #[tactic(auto, unfolding(crate::specs::Requests::push_destination, changes::specs::Parts::ordered))]
 pub fn push_destination(mut world: World, car: u8, stop: u8) -> Changed
     ensures { result ≡ Requests.push_destination world car stop }
