@@ -6,9 +6,8 @@ ghost use Rattle.changes.specs.Changes as Changes;
 ghost use Rattle.changes.specs.Parts as Parts;
 
 use sound_rows::unloaded;
-use tape_records::refuse_if;
 use world::World;
-use world::refusal::Refusal;
+use world::refusal::{Refusal, refuse_if};
 
 // What a record that is no tick gives: a refusal, or the world after it.
 pub type Changed = Result<World, Refusal>;

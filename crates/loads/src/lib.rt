@@ -10,9 +10,8 @@ ghost use Rattle.loads.specs.Loads as Loads;
 
 use changes::Changed;
 use sound_rows::{line_broken, rider_broken, unloaded};
-use tape_records::refuse_if;
 use world::empty::new_car;
-use world::refusal::Refusal;
+use world::refusal::{Refusal, refuse_if};
 use world::{CarPlan, Line, Rider, Table, World};
 
 // A table with one more item, that of a record's own number; refused where this is not the next unused one, of which a full table has none.

@@ -6,8 +6,7 @@ ghost use Rattle.orders.specs.Orders as Orders;
 
 use changes::{Changed, ordered};
 use sound_rows::unloaded;
-use tape_records::refuse_if;
-use world::refusal::Refusal;
+use world::refusal::{Refusal, refuse_if};
 use world::{Car, ElevatorPhase, World};
 
 fn can_go(phase: ElevatorPhase) -> bool

@@ -6,9 +6,9 @@ ghost use Rattle.record_kinds.specs.Kinds as Kinds;
 ghost use Rattle.record_kinds.specs.PaperRoom.{PaperRoom};
 
 use changes::Changed;
-use tape_records::{Record, refuse_if};
+use tape_records::Record;
 use world::World;
-use world::refusal::Refusal;
+use world::refusal::{Refusal, refuse_if};
 
 // Kinds 1 to B and D: what the state refuses, or the world after the record.
 pub fn change(world: World, read: Record) -> Changed

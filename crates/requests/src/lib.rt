@@ -8,9 +8,8 @@ use call_sets::pressed;
 use changes::{Changed, ordered};
 use door::DoorCommand;
 use sound_rows::unloaded;
-use tape_records::refuse_if;
 use world::World;
-use world::refusal::Refusal;
+use world::refusal::{Refusal, refuse_if};
 
 // Kind 8.
 #[tactic(auto, unfolding(crate::specs::Requests::queue_command, changes::specs::Parts::ordered))]

@@ -10,8 +10,8 @@ use fields::body::{
     float_at, outside_above_zero, outside_from_zero, outside_size, raw_zero_at, word_at,
 };
 use layout::Fields;
-use tape_records::{Found, Read, Record, refuse_if};
-use world::refusal::Refusal;
+use tape_records::{Found, Read, Record};
+use world::refusal::{Refusal, refuse_if};
 use world::{CarPlan, Line, LineKind, Motion, Rider, RiderPhase, Serves, Table};
 
 // How many served stops follow: 65,535 stands for no list.

@@ -9,9 +9,9 @@ ghost use Rattle.tape_orders.specs.OrderRecords.{send_record, mode_record, manua
 use door::DoorCommand;
 use fields::body::{float_at, outside_above_zero, outside_size, raw_zero_at};
 use layout::Fields;
-use tape_records::{Found, Read, Record, refuse_if};
+use tape_records::{Found, Read, Record};
 use world::ServiceMode;
-use world::refusal::Refusal;
+use world::refusal::{Refusal, refuse_if};
 
 // Stays: here and below a function a kind. Each looks at other fields against other codes, and where two do the same they call one function:
 // `refuse_if`, `any_field_set`, the ranges of `fields`.

@@ -1,10 +1,7 @@
-// A tape's records with their values, what is read of a tape, and a record's refusal.
+// A tape's records with their values, and what is read of a tape.
 #![tactic(auto)]
 
-ghost use Rattle.std.specs.Prelude.{◌≡◌, true, false, MatchResult};
-
 use door::DoorCommand;
-use world::refusal::Refusal;
 use world::{CarPlan, Line, Rider, ServiceMode};
 
 // A record other than a tick, with its values.
@@ -36,11 +33,4 @@ pub struct Read {
 pub enum Found {
     Change(Record),
     Tick { dt: f64 },
-}
-
-// A refusal where its condition holds.
-pub fn refuse_if(holds: bool, refusal: Refusal) -> Result<(), Refusal>
-    ensures { MatchResult result (λ passed. holds ≡ false) (λ given. (holds ≡ true) × (given ≡ refusal)) }
-{
-    if holds { Err(refusal) } else { Ok(()) }
 }

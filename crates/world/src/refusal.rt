@@ -1,5 +1,5 @@
 // The refusals (error answers) and their numbers in the paper.
-ghost use Rattle.std.specs.Prelude.{◌≡◌};
+ghost use Rattle.std.specs.Prelude.{◌≡◌, true, false, MatchResult};
 ghost use Rattle.world.specs.Refusal.{refusal_number};
 
 #[derive(Clone, Copy, PartialEq, Eq)]
@@ -39,4 +39,11 @@ impl From<Refusal> for u32 {
     fn from(refusal: Refusal) -> u32 {
         refusal as u32
     }
+}
+
+// A refusal where its condition holds.
+pub fn refuse_if(holds: bool, refusal: Refusal) -> Result<(), Refusal>
+    ensures { MatchResult result (λ passed. holds ≡ false) (λ given. (holds ≡ true) × (given ≡ refusal)) }
+{
+    if holds { Err(refusal) } else { Ok(()) }
 }
