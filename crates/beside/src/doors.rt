@@ -2,7 +2,7 @@
 // Stays: C's interface takes no enum, so a state is a number there and a door's fields are parameters.
 
 ghost use Rattle.std.specs.Prelude.{◌≡◌};
-ghost use Rattle.door.specs.Door.{request_open, tick, is_open, is_closed};
+ghost use Rattle.door.specs.Door.{request_open, is_open, is_closed};
 ghost use Rattle.beside.specs.Doors.{door_of, words, words_of, tick_words};
 
 use door::{DoorState, DoorTransition};
@@ -39,8 +39,9 @@ pub extern "C" fn door_tick(
 ) -> DoorWords
     ensures { result ≡ tick_words (door_of state ticks_remaining open_duration close_duration) }
 {
-    let ticked = door_of(state, ticks_remaining, open_duration, close_duration).tick();
-    words_of(ticked.door, ticked.transition)
+    let mut door = door_of(state, ticks_remaining, open_duration, close_duration);
+    let transition = door.tick();
+    words_of(door, transition)
 }
 
 #[unsafe(no_mangle)]

@@ -7,7 +7,7 @@ use lib.Dec.{eqb, leb}
 use lib.Ieee.{Float}
 use Rattle.laws.proofs.Bools.{yes, no}
 use Rattle.door.specs.Door.{is_closed}
-use Rattle.door.specs.declared.Ticked.{Ticked}
+use Rattle.door.specs.Door.{Ticked}
 use Rattle.door.specs.declared.DoorState.{DoorState}
 use Rattle.door.specs.declared.DoorState.TheVariants.{Closed, Opening, Open, Closing}
 use Rattle.world.specs.World.{car_at}

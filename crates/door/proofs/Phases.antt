@@ -9,7 +9,7 @@ use lib.Dec.{leb, eqb, eqb-suc-suc}
 use borrow.Author.Tests.{le-leb, lt-leb, eq-eqb, ne_eqb, eqb-true, eqb-false}
 use Rattle.door.specs.Door.{ticked, tick}
 use Rattle.door.specs.Phases.{after, transition_at, closes_at, closed_at, PhasesEnd}
-use Rattle.door.specs.declared.Ticked.{Ticked}
+use Rattle.door.specs.Door.{Ticked}
 use Rattle.door.specs.declared.DoorState.{DoorState}
 use Rattle.door.specs.declared.DoorState.TheVariants.{Closed, Opening, Open, Closing}
 use Rattle.door.specs.declared.DoorTransition.{DoorTransition}

@@ -1,6 +1,5 @@
 -- A car's door, tick by tick: what the functions of door.rs answer. Assumes nothing.
 use Rattle.std.specs.Prelude.{Bool, true, false, cond, ℕ, ◌-◌, leb}
-use Rattle.door.specs.declared.Ticked.{Ticked}
 use Rattle.door.specs.declared.DoorState.{DoorState}
 use Rattle.door.specs.declared.DoorState.TheVariants.{Closed, Opening, Open, Closing}
 use Rattle.door.specs.declared.DoorTransition.{DoorTransition}
@@ -26,7 +25,11 @@ is_closed (Closing ticks) = false
 abbrev pub request_open : ℕ → ℕ → DoorState
 request_open transition-ticks open-ticks = Opening transition-ticks open-ticks transition-ticks
 
--- a door and the transition of its tick
+-- a door after a tick, and the transition of that tick
+pub record Ticked : Type 0 where
+  pub door : DoorState
+  pub transition : DoorTransition
+
 abbrev pub ticked : DoorState → DoorTransition → Ticked
 ticked d t = record { door = d; transition = t }
 

@@ -1,4 +1,4 @@
-// The door of a car: a finite-state machine on ticks (door.rs). A state goes in by value and comes back.
+// The door of a car: a finite-state machine on ticks (door.rs).
 #![tactic(auto)]
 
 ghost use Rattle.std.specs.Prelude.{◌≡◌, true};
@@ -40,13 +40,6 @@ pub enum DoorTransition {
     FinishedOpening,
     FinishedOpen,
     FinishedClosing,
-}
-
-// A door after a tick, and the transition of that tick.
-#[derive(Clone, Copy, PartialEq, Eq)]
-pub struct Ticked {
-    pub door: DoorState,
-    pub transition: DoorTransition,
 }
 
 impl DoorState {
@@ -96,18 +89,18 @@ impl DoorState {
     }
 
     // One tick, and the transition that it made. A phase with 0 or 1 ticks remaining ends.
-    pub fn tick(self) -> Ticked
-        ensures { result ≡ tick self }
+    pub fn tick(&mut self) -> DoorTransition
+        ensures door { self.new ≡ (tick self.old).door }
+        ensures transition { result ≡ (tick self.old).transition }
     {
-        let mut door = self;
-        door.count_down();
-        let transition = match door {
+        self.count_down();
+        match *self {
             DoorState::Opening {
                 ticks_remaining: 0,
                 open_duration,
                 close_duration,
             } => {
-                door = DoorState::Open {
+                *self = DoorState::Open {
                     ticks_remaining: open_duration,
                     close_duration,
                 };
@@ -117,18 +110,17 @@ impl DoorState {
                 ticks_remaining: 0,
                 close_duration,
             } => {
-                door = DoorState::Closing {
+                *self = DoorState::Closing {
                     ticks_remaining: close_duration,
                 };
                 DoorTransition::FinishedOpen
             }
             DoorState::Closing { ticks_remaining: 0 } => {
-                door = DoorState::Closed;
+                *self = DoorState::Closed;
                 DoorTransition::FinishedClosing
             }
             _ => DoorTransition::None,
-        };
-        Ticked { door, transition }
+        }
     }
 }
 

@@ -29,9 +29,7 @@ fn phase_ends(rt: &impl Print) -> io::Result<()> {
     print!(rt; "request_open(3, 2) ends phases at ticks 3, 5, 8:")?;
     let mut door = DoorState::request_open(3, 2);
     for tick in 1..=12 {
-        let ticked = door.tick();
-        door = ticked.door;
-        if ticked.transition != DoorTransition::None {
+        if door.tick() != DoorTransition::None {
             print!(rt; " {tick}")?;
         }
     }
