@@ -13,60 +13,58 @@ use lib.Ieee.{Float}
 use borrow.Author.Tests.{eqb-true, eqb-false, eq-eqb, ne_eqb, not-true}
 use Rattle.float.specs.Float.{total_before}
 use Rattle.float.specs.Facts.{TotalOrder}
-use Rattle.laws.proofs.Bools.{no, yes, and_left, and_right}
+use Rattle.laws.proofs.Bools.{no, and_left, and_right}
 use Rattle.float.proofs.Total.{total_order}
 use Rattle.world.specs.World.{car_at}
 use Rattle.leader.specs.Leader.{position_of, is_other, car_ahead, leader_or, leader_to, leader_pos, loop_leader_pos, IsOther, Led, LeaderIsNearest}
-use Rattle.leader.specs.Ahead.{is_nearer}
+use Rattle.leader.specs.Ahead.{nearer}
 use Rattle.world.specs.declared.Car.{Car}
 use Rattle.std.specs.declared.option.Option.{Option}
+use Rattle.std.specs.Option.{option_map}
 use Rattle.std.specs.declared.option.Option.TheVariants.{None, Some}
 
 -- ---- the code's turn
 
--- what the search holds: whether there is a leader, its distance and its position
-pub data Held (cars : List Car) (pos circumference : Float) : Option ℕ → Bool → Float → Float → Type 0 where
-  nobody : {nearest position : Float} → Held cars pos circumference None false nearest position
-  somebody : (j : ℕ) → Held cars pos circumference (Some j) true (car_ahead cars pos circumference j) (position_of cars j)
+-- what the search holds: the leader's distance and position
+abbrev pub held : List Car → Float → Float → Option ℕ → Option (Float × Float)
+held cars pos circumference None = None
+held cars pos circumference (Some j) = Some (car_ahead cars pos circumference j, position_of cars j)
 
-module _ {cars : List Car} {pos circumference : Float} where
-  or_taken : {x : Option ℕ} {found : Bool} {nearest position : Float} (i : ℕ) → Held cars pos circumference x found nearest position
-      → is_nearer found nearest (car_ahead cars pos circumference i) ≡ true
-      → Held cars pos circumference (leader_or cars pos circumference x i) true (car_ahead cars pos circumference i) (position_of cars i)
-  or_taken i nobody u = somebody i
-  or_taken i (somebody j) u = rw u (somebody i)
+module _ (cars : List Car) (pos circumference : Float) where
+  or_nearer : (x : Option ℕ) (i : ℕ)
+      → nearer (held cars pos circumference x) (car_ahead cars pos circumference i) (position_of cars i) ≡ held cars pos circumference (leader_or cars pos circumference x i)
+  or_nearer None i = refl
+  or_nearer (Some j) i = by (total_before (car_ahead cars pos circumference i) (car_ahead cars pos circumference j))
+    where
+      by : (b : Bool)
+          → cond b (Some (car_ahead cars pos circumference i, position_of cars i)) (Some (car_ahead cars pos circumference j, position_of cars j))
+          ≡ held cars pos circumference (cond b (Some i) (Some j))
+      by true = refl
+      by false = refl
 
-  or_kept : {x : Option ℕ} {found : Bool} {nearest position : Float} (i : ℕ) → Held cars pos circumference x found nearest position
-      → is_nearer found nearest (car_ahead cars pos circumference i) ≡ false
-      → Held cars pos circumference (leader_or cars pos circumference x i) found nearest position
-  or_kept i nobody u = yes u
-  or_kept i (somebody j) u = rw u (somebody j)
-
-  pub pos_held : {x : Option ℕ} {found : Bool} {nearest position : Float} → Held cars pos circumference x found nearest position → cond found (Some position) None ≡ leader_pos cars x
-  pos_held nobody = refl
-  pos_held (somebody j) = refl
-
-  pub none_yet : (me line : ℕ) (nearest position : Float) → Held cars pos circumference (leader_to cars me line pos circumference 0) false nearest position
-  unfolding leader_to
-  none_yet me line nearest position = nobody
-
-  module _ {found : Bool} {nearest position : Float} (me line i : ℕ) (h : Held cars pos circumference (leader_to cars me line pos circumference i) found nearest position) where
-    pub taken : is_other cars me line i ≡ true → is_nearer found nearest (car_ahead cars pos circumference i) ≡ true
-        → Held cars pos circumference (leader_to cars me line pos circumference (i + 1)) true (car_ahead cars pos circumference i) (position_of cars i)
+  module _ (me line : ℕ) where
+    pub none_yet : None ≡ held cars pos circumference (leader_to cars me line pos circumference 0)
     unfolding leader_to
-    taken t u = rw (add-one, t) (or_taken i h u)
+    none_yet = refl
 
-    pub kept : is_other cars me line i ≡ true → is_nearer found nearest (car_ahead cars pos circumference i) ≡ false
-        → Held cars pos circumference (leader_to cars me line pos circumference (i + 1)) found nearest position
-    unfolding leader_to
-    kept t u = rw (add-one, t) (or_kept i h u)
+    module _ (i : ℕ) (best : Option (Float × Float)) (h : best ≡ held cars pos circumference (leader_to cars me line pos circumference i)) where
+      pub taken : is_other cars me line i ≡ true
+          → nearer best (car_ahead cars pos circumference i) (position_of cars i) ≡ held cars pos circumference (leader_to cars me line pos circumference (i + 1))
+      unfolding leader_to
+      taken t = rw (add-one, t, h) (or_nearer (leader_to cars me line pos circumference i) i)
 
-    pub passed : is_other cars me line i ≡ false → Held cars pos circumference (leader_to cars me line pos circumference (i + 1)) found nearest position
-    unfolding leader_to
-    passed t = rw (add-one, t) h
+      pub passed : is_other cars me line i ≡ false → best ≡ held cars pos circumference (leader_to cars me line pos circumference (i + 1))
+      unfolding leader_to
+      passed t = rw (add-one, t) h
+
+-- its position
+pub placed : (cars : List Car) (pos circumference : Float) (x : Option ℕ) (best : Option (Float × Float)) → best ≡ held cars pos circumference x
+    → option_map (λ (p : Float × Float). p.1) best ≡ leader_pos cars x
+placed cars pos circumference None best h = rw h
+placed cars pos circumference (Some j) best h = rw h
 
 -- one turn of the search
-pub ruleset turn_of = (none_yet, taken, kept, passed, pos_held, get_or-take)
+pub ruleset turn_of = (none_yet, taken, passed, placed, get_or-take)
 
 -- ---- the claim
 
@@ -117,8 +115,8 @@ module _ (cars : List Car) (me line : ℕ) (pos circumference : Float) where
   not_before true h = absurd (h refl)
   not_before false h = refl
 
-  nearer : (n j : ℕ) → other n → total_before (d n) (d j) ≡ true → Best n (Some j) → Best (suc n) (Some n)
-  nearer n j o t h = (
+  comes_nearer : (n j : ℕ) → other n → total_before (d n) (d j) ≡ true → Best n (Some j) → Best (suc n) (Some n)
+  comes_nearer n j o t h = (
     omega arith,
     o,
     extend (λ (k : ℕ). other k → total_before (d k) (d n) ≡ false) n
@@ -142,7 +140,7 @@ module _ (cars : List Car) (me line : ℕ) (pos circumference : Float) where
   turn n (Some j) o h = by (total_before (d n) (d j)) refl
     where
       by : (b : Bool) → total_before (d n) (d j) ≡ b → Best (suc n) (cond b (Some n) (Some j))
-      by true t = nearer n j o t h
+      by true t = comes_nearer n j o t h
       by false t = farther n j t h
 
   best : (n : ℕ) → Best n (leader_to cars me line pos circumference n)

@@ -3,7 +3,7 @@
 
 ghost use Rattle.std.specs.Prelude.{◌≡◌, true};
 ghost use Rattle.leader.specs.Leader.{is_other_car, loop_leader_pos, LeaderIsNearest};
-ghost use Rattle.leader.specs.Ahead.{is_nearer};
+ghost use Rattle.leader.specs.Ahead.{nearer};
 
 use float::total_before;
 use motion::cyclic::forward_distance;
@@ -16,11 +16,14 @@ fn is_other(car: Car, me: usize, line: u8, i: usize) -> bool
     (i != me) & (car.line == line)
 }
 
-// Whether a car at a distance goes in place of the nearest so far: none is found, or this one is nearer.
-fn is_nearer(found: bool, nearest: f64, distance: f64) -> bool
-    ensures { result ≡ is_nearer found nearest distance }
+// The nearer of two cars with their distances, the earlier where neither is.
+fn nearer_of(best: Option<(f64, f64)>, distance: f64, position: f64) -> Option<(f64, f64)>
+    ensures { result ≡ nearer best distance position }
 {
-    !found | total_before(distance, nearest)
+    match best {
+        Some((nearest, _)) if !total_before(distance, nearest) => best,
+        _ => Some((distance, position)),
+    }
 }
 
 // movement.rs, loop_leader_pos. The hint is for lines, which do not call it: as a part of the record call it costs them 46 to 80 ns a tick.
@@ -35,21 +38,14 @@ pub fn loop_leader_pos(
 ) -> Option<f64>
     ensures { result ≡ loop_leader_pos cars.now me line pos circumference }
 {
-    // Stays: in place of these an Option would be copied, and a copy of an enum waits for its padding.
-    let mut found = false;
-    let mut nearest: f64 = 0.0;
-    let mut position: f64 = 0.0;
+    let mut best = None;
     for (i, car) in cars.as_slice().iter().enumerate() {
         if is_other(*car, me, line, i) {
             let distance = forward_distance(pos, car.motion.position, circumference);
-            if is_nearer(found, nearest, distance) {
-                found = true;
-                nearest = distance;
-                position = car.motion.position;
-            }
+            best = nearer_of(best, distance, car.motion.position);
         }
     }
-    found.then_some(position)
+    best.map(|(_, position)| position)
 }
 
 // Carries the claim that the definition gives the leader.

@@ -1,7 +1,8 @@
 -- What the loops keep.
+use mathlib.Core.Path.{◌≡◌}
 use Rattle.leader.specs.Leader.{leader_to}
-use Rattle.leader.proofs.Lead.{Held}
+use Rattle.leader.proofs.Lead.{held}
 use Rattle.leader.proofs.loop_leader_pos.Given as goal
 
 abbrev pub invariant-loop-i : goal.invariant-loop-i
-invariant-loop-i l = Held l.cars.items l.pos l.circumference (leader_to l.cars.items l.me l.line l.pos l.circumference l.i) l.found l.nearest l.position
+invariant-loop-i l = l.best ≡ held l.cars.items l.pos l.circumference (leader_to l.cars.items l.me l.line l.pos l.circumference l.i)
