@@ -17,6 +17,8 @@ fn is_other(car: Car, me: usize, line: u8, i: usize) -> bool
 }
 
 // The nearer of two cars with their distances, the earlier where neither is.
+// Stays: beside next_stop's. The Rust finds a leader by total_cmp and a stop by `<`; one function of both would take the order and the item's type, to share a
+// match of two arms.
 fn nearer_of(best: Option<(f64, f64)>, distance: f64, position: f64) -> Option<(f64, f64)>
     ensures { result ≡ nearer best distance position }
 {

@@ -5,9 +5,10 @@ ghost use Rattle.std.specs.Prelude.{◌≡◌};
 ghost use Rattle.motion.specs.Cyclic as Cyclic;
 ghost use Rattle.motion.specs.Movement as Movement;
 
-// Stays: C calls each by its name, on plain numbers.
 use motion::movement::MovementResult;
 use motion::{cyclic, movement};
+
+// Stays: here and below a function a formula: C calls each by its name, on plain numbers.
 
 // A position brought into [0, circumference); unchanged where there is no circle or the position is not finite.
 #[unsafe(no_mangle)]

@@ -69,7 +69,8 @@ pub type Queue<T> = Table<T, 8>;
 pub type Stops = Table<f64, 64>;
 
 // The stops that a line serves, in order; `listed` is false where it has no list.
-// Stays: `listed` and no Option of the list. Refusal 0 looks at the count of a line without a list too.
+// Stays: `listed` and no Option of the list. The paper's "a count above its limit" is read of every line of a lent world, also of one without a list; an Option
+// would have no count there.
 #[derive(Clone, Copy)]
 pub struct Serves {
     pub listed: bool,
