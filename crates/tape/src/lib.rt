@@ -15,10 +15,7 @@ use world::refusal::Refusal;
 pub fn decode(words: &[u32]) -> Result<Read, Refusal>
     ensures { result ≡ decoded words.now }
 {
-    if words.is_empty() {
-        return Err(Refusal::CutShort);
-    }
-    let head = fields_of(words[0]);
+    let head = fields_of(*words.first().ok_or(Refusal::CutShort)?);
     // Stays: a match on the number, which is read here alone and stands beside its decoder's name. An enum of the kinds would list the thirteen
     // names three times: in itself, in its TryFrom and in this match.
     match head.kind {

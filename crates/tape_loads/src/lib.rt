@@ -4,13 +4,13 @@
 ghost use Rattle.std.specs.Prelude.{IfOk, ◌≡◌, ◌≤◌, ◌+◌, ◌&&◌, ◌||◌, not, cond, ltb, eqb, length, Ok, Err};
 ghost use Rattle.world.specs.declared.refusal.Refusal.TheVariants.{FieldOutside};
 ghost use Rattle.tape_records.specs.Answers.{answer, not_stop, not_car};
-ghost use Rattle.tape_loads.specs.LoadRecords.{serves_count, serves_outside, serves_to, line_fields_outside, line_floats_outside, line_kind_of, line_record, stop_record, motion_at, motion_outside, car_record, rider_body, phase_car_outside, rider_phase, car_option, stop_option, rider_record};
+ghost use Rattle.tape_loads.specs.LoadRecords.{serves_count, serves_outside, serves_to, line_fields_outside, line_kind_of, line_record, stop_record, motion_at, motion_outside, car_record, rider_body, phase_car_outside, rider_phase, car_option, stop_option, rider_record};
 
 use fields::body::{
     float_at, outside_above_zero, outside_from_zero, outside_size, raw_zero_at, word_at,
 };
 use layout::Fields;
-use tape_records::{Found, Read, Record};
+use tape_records::{Found, Read, Record, stop_of};
 use world::refusal::{Refusal, refuse_if};
 use world::{CarPlan, Line, LineKind, Motion, Rider, RiderPhase, Serves, Table};
 
@@ -23,16 +23,6 @@ fn serves_count(v: u32) -> Result<usize, Refusal>
     match v {
         0..=64 => Ok(v as usize),
         65535 => Ok(0),
-        _ => Err(Refusal::FieldOutside),
-    }
-}
-
-// The stop of a number.
-fn stop_of(number: u32) -> Result<u8, Refusal>
-    ensures { result ≡ cond (not_stop number) (Err FieldOutside) (Ok number) }
-{
-    match number {
-        0..=63 => Ok(number as u8),
         _ => Err(Refusal::FieldOutside),
     }
 }
@@ -51,47 +41,40 @@ fn serves_to(words: &[u32], count: usize) -> Result<[u8; 64], Refusal>
 }
 
 // Stays: here and below head and words go side by side, as the paper has a head and a body; seven of the thirteen kinds have a head alone.
-#[tactic(auto, unfolding(crate::specs::LoadRecords::line_fields_outside))]
-fn line_fields_outside(head: Fields, words: &[u32]) -> bool
-    ensures { result ≡ line_fields_outside head words.now }
-{
-    let raw_zeros = raw_zero_at(words, 1) & raw_zero_at(words, 3);
-    (head.n > 7) | (head.s > 1) | (head.s == 0) & !raw_zeros
-}
 
-#[tactic(auto, unfolding(crate::specs::LoadRecords::line_floats_outside))]
-fn line_floats_outside(head: Fields, words: &[u32]) -> bool
-    ensures { result ≡ line_floats_outside head words.now }
+// The kind of a line: linear, with raw zero words, or a loop of the two floats.
+#[tactic(auto, unfolding(crate::specs::LoadRecords::line_fields_outside, crate::specs::LoadRecords::line_kind_of))]
+fn line_kind(head: Fields, words: &[u32]) -> Result<LineKind, Refusal>
+    ensures { result ≡ cond (line_fields_outside head words.now) (Err FieldOutside) (Ok (line_kind_of head words.now)) }
 {
-    let outside = outside_above_zero(float_at(words, 1), 1000000.0)
-        | outside_from_zero(float_at(words, 3), 1000000.0);
-    (head.s == 1) & outside
-}
-
-#[tactic(auto, unfolding(crate::specs::LoadRecords::line_kind_of))]
-fn line_kind_of(head: Fields, words: &[u32]) -> LineKind
-    ensures { result ≡ line_kind_of head words.now }
-{
-    if head.s == 0 {
-        LineKind::Linear
-    } else {
-        LineKind::Loop {
+    refuse_if(head.n > 7, Refusal::FieldOutside)?;
+    match head.s {
+        0 if raw_zero_at(words, 1) && raw_zero_at(words, 3) => Ok(LineKind::Linear),
+        1 => Ok(LineKind::Loop {
             circumference: float_at(words, 1),
             min_headway: float_at(words, 3),
-        }
+        }),
+        _ => Err(Refusal::FieldOutside),
     }
 }
 
-#[tactic(auto, unfolding(crate::specs::LoadRecords::line_record))]
+#[tactic(auto, unfolding(crate::specs::LoadRecords::line_fields_outside, crate::specs::LoadRecords::line_floats_outside, crate::specs::LoadRecords::line_kind_of, crate::specs::LoadRecords::line_record))]
 pub fn decode_line(head: Fields, words: &[u32]) -> Result<Read, Refusal>
     ensures { result ≡ answer (line_record head words.now) }
 {
     let count = serves_count(head.v)?;
     refuse_if(words.len() < 5 + count, Refusal::CutShort)?;
-    refuse_if(line_fields_outside(head, words), Refusal::FieldOutside)?;
+    let kind = line_kind(head, words)?;
     let items = serves_to(words, count)?;
-    refuse_if(line_floats_outside(head, words), Refusal::FloatOutside)?;
-    let kind = line_kind_of(head, words);
+    if let LineKind::Loop {
+        circumference,
+        min_headway,
+    } = kind
+    {
+        let float_outside = outside_above_zero(circumference, 1000000.0)
+            | outside_from_zero(min_headway, 1000000.0);
+        refuse_if(float_outside, Refusal::FloatOutside)?;
+    }
     let stops = Table { items, count };
     let serves = Serves {
         listed: head.v != 65535,
@@ -111,14 +94,11 @@ pub fn decode_stop(head: Fields, words: &[u32]) -> Result<Read, Refusal>
     ensures { result ≡ answer (stop_record head words.now) }
 {
     refuse_if(words.len() < 3, Refusal::CutShort)?;
-    let field_outside = (head.n != 0) | (head.s > 63) | (head.v != 0);
-    refuse_if(field_outside, Refusal::FieldOutside)?;
+    refuse_if((head.n != 0) | (head.v != 0), Refusal::FieldOutside)?;
+    let number = stop_of(u32::from(head.s))?;
     let position = float_at(words, 1);
     refuse_if(outside_size(position, 1000000.0), Refusal::FloatOutside)?;
-    let found = Found::Change(Record::Stop {
-        number: head.s,
-        position,
-    });
+    let found = Found::Change(Record::Stop { number, position });
     Ok(Read { found, used: 3 })
 }
 
@@ -167,6 +147,7 @@ pub fn decode_car(head: Fields, words: &[u32]) -> Result<Read, Refusal>
 }
 
 // The body word of a rider: bits 7-0 phase, 15-8 phase's car, 23-16 car aboard, top bits.
+// Stays: a struct. Where the four bytes go into `decode_rider` as an array's items, the search for its promise stops at its limit of case splits.
 #[derive(Clone, Copy)]
 struct RiderBody {
     phase: u8,
@@ -178,11 +159,12 @@ struct RiderBody {
 fn rider_body(word: u32) -> RiderBody
     ensures { result ≡ rider_body word }
 {
+    let [phase, car, aboard, top] = word.to_le_bytes();
     RiderBody {
-        phase: (word % 256) as u8,
-        car: (word / 0x100 % 256) as u8,
-        aboard: (word / 0x1_0000 % 256) as u8,
-        top: (word / 0x100_0000) as u8,
+        phase,
+        car,
+        aboard,
+        top,
     }
 }
 

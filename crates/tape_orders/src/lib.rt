@@ -9,20 +9,30 @@ ghost use Rattle.tape_orders.specs.OrderRecords.{send_record, mode_record, manua
 use door::DoorCommand;
 use fields::body::{float_at, outside_above_zero, outside_size, raw_zero_at};
 use layout::Fields;
-use tape_records::{Found, Read, Record};
+use tape_records::{Found, Read, Record, stop_of};
 use world::ServiceMode;
 use world::refusal::{Refusal, refuse_if};
 
+// A flag: 0 or 1.
+fn flag_of(v: u32) -> Result<bool, Refusal>
+    ensures { result ≡ cond (ltb 1 v) (Err FieldOutside) (Ok (eqb v 1)) }
+{
+    match v {
+        0 => Ok(false),
+        1 => Ok(true),
+        _ => Err(Refusal::FieldOutside),
+    }
+}
+
 // Stays: here and below a function a kind. Each looks at other fields against other codes, and where two do the same they call one function:
-// `refuse_if`, `any_field_set`, the ranges of `fields`.
+// `refuse_if`, `stop_of`, `flag_of`, `any_field_set`, the ranges of `fields`.
 pub fn decode_send(head: Fields) -> Result<Read, Refusal>
     ensures { result ≡ answer (send_record head) }
 {
-    refuse_if((head.s > 63) | (head.v > 1), Refusal::FieldOutside)?;
     let found = Found::Change(Record::Send {
         car: head.n,
-        stop: head.s,
-        reposition: head.v == 1,
+        stop: stop_of(u32::from(head.s))?,
+        reposition: flag_of(head.v)?,
     });
     Ok(Read { found, used: 1 })
 }
@@ -40,19 +50,20 @@ pub fn decode_manual_speed(head: Fields, words: &[u32]) -> Result<Read, Refusal>
     ensures { result ≡ answer (manual_speed_record head words.now) }
 {
     refuse_if(words.len() < 3, Refusal::CutShort)?;
-    let raw_zero = raw_zero_at(words, 1);
-    let field_outside = (head.s != 0) | (head.v > 1) | (head.v == 0) & !raw_zero;
-    refuse_if(field_outside, Refusal::FieldOutside)?;
-    let float = float_at(words, 1);
-    let float_outside = (head.v == 1) & outside_size(float, 1000.0);
+    let speed = match (head.s, head.v) {
+        (0, 0) if raw_zero_at(words, 1) => None,
+        (0, 1) => Some(float_at(words, 1)),
+        _ => return Err(Refusal::FieldOutside),
+    };
+    let float_outside = speed.is_some_and(|x| outside_size(x, 1000.0));
     refuse_if(float_outside, Refusal::FloatOutside)?;
-    let speed = (head.v == 1).then_some(float);
     let found = Found::Change(Record::ManualSpeed { car: head.n, speed });
     Ok(Read { found, used: 3 })
 }
 
 // The door command of a code and its ticks, which none but HoldOpen has.
-// Stays: the four codes stand here and in `log_words::code_and_ticks`: these are the two directions, from the code and to it.
+// Stays: the four codes stand here and in `log_words::code_and_ticks`, which stands below the tape and knows no record: from the code and to it.
+// An enum of the codes would list the four names a third time.
 fn command_of(s: u8, v: u32) -> Result<DoorCommand, Refusal>
     ensures { result ≡ cond (ltb 3 s || not (eqb s 2) && nonzero v) (Err FieldOutside) (Ok (command_of s v)) }
 {
@@ -79,11 +90,10 @@ pub fn decode_door_command(head: Fields) -> Result<Read, Refusal>
 pub fn decode_hall_call(head: Fields) -> Result<Read, Refusal>
     ensures { result ≡ answer (hall_call_record head) }
 {
-    let field_outside = (head.n != 0) | (head.s > 63) | (head.v > 1);
-    refuse_if(field_outside, Refusal::FieldOutside)?;
+    refuse_if(head.n != 0, Refusal::FieldOutside)?;
     let found = Found::Change(Record::HallCall {
-        stop: head.s,
-        down: head.v == 1,
+        stop: stop_of(u32::from(head.s))?,
+        down: flag_of(head.v)?,
     });
     Ok(Read { found, used: 1 })
 }
@@ -91,10 +101,10 @@ pub fn decode_hall_call(head: Fields) -> Result<Read, Refusal>
 pub fn decode_destination(head: Fields) -> Result<Read, Refusal>
     ensures { result ≡ answer (destination_record head) }
 {
-    refuse_if((head.s > 63) | (head.v != 0), Refusal::FieldOutside)?;
+    refuse_if(head.v != 0, Refusal::FieldOutside)?;
     let found = Found::Change(Record::Destination {
         car: head.n,
-        stop: head.s,
+        stop: stop_of(u32::from(head.s))?,
     });
     Ok(Read { found, used: 1 })
 }
@@ -102,10 +112,10 @@ pub fn decode_destination(head: Fields) -> Result<Read, Refusal>
 pub fn decode_enable(head: Fields) -> Result<Read, Refusal>
     ensures { result ≡ answer (enable_record head) }
 {
-    refuse_if((head.s != 0) | (head.v > 1), Refusal::FieldOutside)?;
+    refuse_if(head.s != 0, Refusal::FieldOutside)?;
     let found = Found::Change(Record::Enable {
         car: head.n,
-        enabled: head.v == 0,
+        enabled: !flag_of(head.v)?,
     });
     Ok(Read { found, used: 1 })
 }

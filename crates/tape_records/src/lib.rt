@@ -1,7 +1,12 @@
 // A tape's records with their values, and what is read of a tape.
 #![tactic(auto)]
 
+ghost use Rattle.std.specs.Prelude.{◌≡◌, cond, Ok, Err};
+ghost use Rattle.world.specs.declared.refusal.Refusal.TheVariants.{FieldOutside};
+ghost use Rattle.tape_records.specs.Answers.{not_stop};
+
 use door::DoorCommand;
+use world::refusal::Refusal;
 use world::{CarPlan, Line, Rider, ServiceMode};
 
 // A record other than a tick, with its values.
@@ -15,10 +20,21 @@ pub enum Record {
     Mode { car: u8, mode: ServiceMode },
     ManualSpeed { car: u8, speed: Option<f64> },
     DoorCommand { car: u8, command: DoorCommand },
+    // Stays: `down` is the bit v; why it is no direction stands at `log_words::Event::HallCallCleared`.
     HallCall { stop: u8, down: bool },
     Destination { car: u8, stop: u8 },
     Enable { car: u8, enabled: bool },
     Start,
+}
+
+// The stop of a number.
+pub fn stop_of(number: u32) -> Result<u8, Refusal>
+    ensures { result ≡ cond (not_stop number) (Err FieldOutside) (Ok number) }
+{
+    match number {
+        0..=63 => Ok(number as u8),
+        _ => Err(Refusal::FieldOutside),
+    }
 }
 
 // What a tape begins with, and how many words it takes.
