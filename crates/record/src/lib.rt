@@ -84,8 +84,7 @@ pub fn record(world: World, words: &[u32], log: &mut [u32]) -> Recorded
         Found::Change(found) => return answered(w, found, read.used),
         Found::Tick { dt } => dt,
     };
-    let taken = take_tick(w.started, w.ticks, w.cars.count, w.stops.count, log.len());
-    if let Err(refusal) = taken {
+    if let Err(refusal) = take_tick(&w, log.len()) {
         return refused(w, refusal);
     }
     // 3. the tick's word; movement.rs, run: car by car, each on positions already updated in this tick. A car at rest is left alone.
@@ -124,11 +123,8 @@ pub fn record(world: World, words: &[u32], log: &mut [u32]) -> Recorded
             let mut car = w.cars.items[i];
             let number = i as u8;
             let line = line_at(&w.lines.items, car.line);
-            let traversing = if car.door_command_queue.count == 0 {
-                false
-            } else {
-                has_rider_traversing(&w.riders, number)
-            };
+            let traversing =
+                car.door_command_queue.count != 0 && has_rider_traversing(&w.riders, number);
             just_opened[i] = door_turn(&mut log, number, &mut car, line, traversing, &w.stops);
             w.cars.items[i] = car;
         }
