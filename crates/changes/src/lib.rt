@@ -12,15 +12,15 @@ use world::refusal::{Refusal, refuse_if};
 // What a record that is no tick gives: a refusal, or the world after it.
 pub type Changed = Result<World, Refusal>;
 
-// The place of the car that an order names; refused before the start, and where the car or what else is named is not loaded.
+// The place of the car that an order names; refused before the start, and where the car is not loaded.
 #[tactic(auto, unfolding(crate::specs::Parts::ordered))]
-pub fn ordered(world: &World, car: u8, unnamed: bool) -> Result<usize, Refusal>
-    ensures { (result ≡ Parts.ordered world.now car unnamed) × IfOk result (λ at. at < 16) }
+pub fn ordered(world: &World, car: u8) -> Result<usize, Refusal>
+    ensures { (result ≡ Parts.ordered world.now car) × IfOk result (λ at. at < 16) }
 {
     refuse_if(!world.started, Refusal::NotNow)?;
     let at = car as usize;
     refuse_if(
-        (16 <= at) | unloaded(world.cars.count, car) | unnamed,
+        (16 <= at) | unloaded(world.cars.count, car),
         Refusal::NotLoaded,
     )?;
     Ok(at)

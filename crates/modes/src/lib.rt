@@ -14,7 +14,7 @@ use world::{ServiceMode, World};
 pub fn set_mode(mut world: World, car: u8, mode: ServiceMode) -> Changed
     ensures { result ≡ Modes.set_mode world car mode }
 {
-    let at = ordered(&world, car, false)?;
+    let at = ordered(&world, car)?;
     world.cars.items[at].service_mode = mode;
     Ok(world)
 }
@@ -24,7 +24,7 @@ pub fn set_mode(mut world: World, car: u8, mode: ServiceMode) -> Changed
 pub fn set_manual_speed(mut world: World, car: u8, speed: Option<f64>) -> Changed
     ensures { result ≡ Modes.set_manual_speed world car speed }
 {
-    let at = ordered(&world, car, false)?;
+    let at = ordered(&world, car)?;
     world.cars.items[at].manual_target_velocity = speed;
     Ok(world)
 }
@@ -34,7 +34,7 @@ pub fn set_manual_speed(mut world: World, car: u8, speed: Option<f64>) -> Change
 pub fn set_enabled(mut world: World, car: u8, enabled: bool) -> Changed
     ensures { result ≡ Modes.set_enabled world car enabled }
 {
-    let at = ordered(&world, car, false)?;
+    let at = ordered(&world, car)?;
     world.cars.items[at].enabled = enabled;
     Ok(world)
 }

@@ -35,8 +35,8 @@ fn sent(car: Car, stop: u8, reposition: bool) -> Car
 pub fn send(mut world: World, car: u8, stop: u8, reposition: bool) -> Changed
     ensures { result ≡ Orders.send world car stop reposition }
 {
-    let unnamed = unloaded(world.stops.count, stop);
-    let at = ordered(&world, car, unnamed)?;
+    let at = ordered(&world, car)?;
+    refuse_if(unloaded(world.stops.count, stop), Refusal::NotLoaded)?;
     let row = world.cars.items[at];
     refuse_if(!row.enabled | !can_go(row.phase), Refusal::CannotGo)?;
     world.cars.items[at] = sent(row, stop, reposition);

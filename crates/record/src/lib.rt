@@ -25,7 +25,7 @@ use world::World;
 use world::refusal::Refusal;
 
 // An accepted record: the words used and the log words written.
-#[derive(Clone, Copy)]
+#[derive(Clone, Copy, Default)]
 pub struct Accepted {
     pub used: usize,
     pub written: usize,
@@ -84,8 +84,7 @@ pub fn record(world: World, words: &[u32], log: &mut [u32]) -> Recorded
         Found::Change(found) => return answered(w, found, read.used),
         Found::Tick { dt } => dt,
     };
-    let taken = take_tick(w.started, w.ticks, w.cars.count, w.stops.count, log.len());
-    if let Err(refusal) = taken {
+    if let Err(refusal) = take_tick(&w, log.len()) {
         return refused(w, refusal);
     }
     // 3. the tick's word; movement.rs, run: car by car, each on positions already updated in this tick. A car at rest is left alone.
@@ -93,6 +92,7 @@ pub fn record(world: World, words: &[u32], log: &mut [u32]) -> Recorded
     let sort = SortedStops::new(&w.stops);
     let mut log = Log::new(log);
     log.emit(Event::TickMade { tick: w.ticks });
+    // Stays: by the number. Each turn writes the table of cars that the next one reads, and an iterator would borrow it for the whole loop.
     for i in 0..cars {
         let car = w.cars.items[i];
         let trip = trip_of(car);
@@ -119,16 +119,14 @@ pub fn record(world: World, words: &[u32], log: &mut [u32]) -> Recorded
     }
     // 4. doors.rs, run: commands, then the door's tick, car by car; then the hall calls clear
     let mut just_opened = [None; 16];
+    // Stays: by the number too, as a turn writes two tables at one place and tells it: `enumerate` of `zip` of two `iter_mut` would name three things for `i`.
     for i in 0..cars {
         if has_turn(&w.cars.items[i]) {
             let mut car = w.cars.items[i];
             let number = i as u8;
             let line = line_at(&w.lines.items, car.line);
-            let traversing = if car.door_command_queue.count == 0 {
-                false
-            } else {
-                has_rider_traversing(&w.riders, number)
-            };
+            let traversing = car.door_command_queue.count != 0
+                && has_rider_traversing(&w.riders, number);
             just_opened[i] = door_turn(&mut log, number, &mut car, line, traversing, &w.stops);
             w.cars.items[i] = car;
         }

@@ -34,20 +34,14 @@ pub fn change(world: World, read: Record) -> Changed
     }
 }
 
-// Kind C, of a world with so many cars and stops and a log of `room` words: 6, 11 and 12, or the tick is taken.
+// Kind C, with a log of `room` words: 6, 11 and 12, or the tick is taken.
 #[tactic(auto, using(crate::proofs::Proved::small), unfolding(crate::specs::Kinds::tick_taken))]
-pub fn take_tick(
-    started: bool,
-    ticks: u64,
-    cars: usize,
-    stops: usize,
-    room: usize,
-) -> Result<(), Refusal>
-    ensures { result ≡ Kinds.tick_taken started ticks cars stops room }
+pub fn take_tick(world: &World, room: usize) -> Result<(), Refusal>
+    ensures { result ≡ Kinds.tick_taken world.now.started world.now.ticks world.now.cars.count world.now.stops.count room }
 {
-    refuse_if(!started, Refusal::NotNow)?;
-    refuse_if(0x1000_0000 <= ticks, Refusal::LastTick)?;
-    let need = cars.min(16) * (stops.min(64) + 14) + 1;
+    refuse_if(!world.started, Refusal::NotNow)?;
+    refuse_if(0x1000_0000 <= world.ticks, Refusal::LastTick)?;
+    let need = world.cars.count.min(16) * (world.stops.count.min(64) + 14) + 1;
     refuse_if(room < need, Refusal::LogShort)
 }
 

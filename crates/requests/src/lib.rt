@@ -16,7 +16,7 @@ use world::refusal::{Refusal, refuse_if};
 pub fn queue_command(mut world: World, car: u8, command: DoorCommand) -> Changed
     ensures { result ≡ Requests.queue_command world car command }
 {
-    let at = ordered(&world, car, false)?;
+    let at = ordered(&world, car)?;
     let queue = world.cars.items[at].door_command_queue;
     world.cars.items[at].door_command_queue = queue.pushed(command).ok_or(Refusal::QueueFull)?;
     Ok(world)
@@ -43,8 +43,8 @@ pub fn press_hall_call(mut world: World, stop: u8, down: bool) -> Changed
 pub fn push_destination(mut world: World, car: u8, stop: u8) -> Changed
     ensures { result ≡ Requests.push_destination world car stop }
 {
-    let unnamed = unloaded(world.stops.count, stop);
-    let at = ordered(&world, car, unnamed)?;
+    let at = ordered(&world, car)?;
+    refuse_if(unloaded(world.stops.count, stop), Refusal::NotLoaded)?;
     let queue = world.cars.items[at].destination_queue;
     world.cars.items[at].destination_queue = queue.pushed(stop).ok_or(Refusal::QueueFull)?;
     Ok(world)

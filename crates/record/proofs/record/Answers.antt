@@ -15,7 +15,7 @@ use Rattle.movement_system.proofs.Moving.{Moves, cars_kept, calls_kept, doored_a
 use Rattle.tick.specs.Tick.{ticked, tick_world, tick_words}
 use Rattle.record.proofs.Giving.{is_broken, is_whole, is_refused, is_made, tick_refused, tick_taken_lem}
 use Rattle.record.proofs.record.Goals as goal
-use Rattle.record.proofs.record.Goals.{Else-broken, then-is_trip+then-result, then-is_trip+else-result, else-is_trip, then-asks_work, else-asks_work, then-has_turn, else-has_turn, then-car-eq0, else-car-eq0}
+use Rattle.record.proofs.record.Goals.{Else-broken, then-is_trip+then-result, then-is_trip+else-result, else-is_trip, then-asks_work, else-asks_work, then-has_turn, else-has_turn, then-car-ne0, else-car-ne0}
 
 -- ---- counts by another name
 
@@ -45,11 +45,11 @@ returns-in-Change c =
     is_whole w _ _ (whole (goal.at.returns-in-Change c).Else-broken) c.decode.ensures
     (is_made w _ c.in-Ok.is c.in-Change.is (c.answered.ensures _))
 
-pub returns-in-Err-taken : goal.returns-in-Err-taken
-returns-in-Err-taken c =
+pub returns-in-Err-take_tick : goal.returns-in-Err-take_tick
+returns-in-Err-take_tick c =
     let w = c.args.world in
-    is_whole w _ _ (whole (goal.at.returns-in-Err-taken c).Else-broken) c.decode.ensures
-    (is_made w _ c.in-Ok.is c.in-Tick.is (tick_refused w _ _ _ (sym c.take_tick-taken.ensures ∙ c.in-Err-taken.is) c.refused-in-Err-taken.ensures))
+    is_whole w _ _ (whole (goal.at.returns-in-Err-take_tick c).Else-broken) c.decode.ensures
+    (is_made w _ c.in-Ok.is c.in-Tick.is (tick_refused w _ _ _ (sym c.take_tick.ensures ∙ c.in-Err-take_tick.is) c.refused-in-Err-take_tick.ensures))
 
 -- ---- the moves
 
@@ -111,7 +111,7 @@ loop-i-2-preserved c =
       omega (arith, test),
       elim c.if-has_turn.branch [
         | then-has_turn u ↦
-            let h = turn_on_lem w.w w.i (car_at w.w.cars.items w.i) _ _ u.line_at-line.ensures (elim u.if-car-eq0.branch [ then-car-eq0 v ↦ inl v.if-car-eq0.true | else-car-eq0 v ↦ inr (v.traversing-is ∙ v.has_rider_traversing-traversing.ensures) ]) u.door_turn.ensures in
+            let h = turn_on_lem w.w w.i (car_at w.w.cars.items w.i) _ _ u.line_at-line.ensures (elim u.if-car-ne0.branch [ then-car-ne0 v ↦ inr (v.traversing-is ∙ v.has_rider_traversing-traversing.ensures) | else-car-ne0 v ↦ inl v.if-car-ne0.false ]) u.door_turn.ensures in
             same (more (step_of w.w u.door_turn.new.car _ u.door_turn.result) w.invariant.1 (door_of_lem w.w w.i h) h.told) u.log-is u.w-is u.just_opened-is
         | else-has_turn u ↦ same (passed w.invariant.1 (omega (arith, test, w.invariant.2)) (sym c.has_turn.ensures ∙ u.if-has_turn.false)) u.log-is u.w-is u.just_opened-is
       ],
@@ -135,5 +135,5 @@ returns c =
     let x = doored_after c.in-Tick.dt w k r.0 r.1 in
     let all = told_also c.emit.ensures x.1 in
     is_whole w _ _ (whole (goal.at.returns c).Else-broken) c.decode.ensures
-    (is_made w _ c.in-Ok.is c.in-Tick.is (tick_taken_lem w _ _ _ (sym c.take_tick-taken.ensures ∙ c.in_default.is) refl
+    (is_made w _ c.in-Ok.is c.in-Tick.is (tick_taken_lem w _ _ _ (sym c.take_tick.ensures ∙ c.in_default.is) refl
     (ap ticked x.0) (search (rules, all.wrote, all.slice))))
