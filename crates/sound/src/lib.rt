@@ -11,10 +11,7 @@ use world::World;
 fn calls_unloaded(stops: usize, calls: u64) -> bool
     ensures { result ≡ Sound.calls_unloaded stops calls }
 {
-    if 64 <= stops {
-        return false;
-    }
-    1u64 << stops <= calls
+    stops < 64 && 1u64 << stops <= calls
 }
 
 // Whether one of the items passes the test. No answer ends the search early: so it goes over several items at a time.
