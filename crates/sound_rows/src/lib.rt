@@ -2,8 +2,8 @@
 // make.
 #![tactic(auto)]
 
-ghost use Rattle.std.specs.Prelude.{◌≡◌, ◌||◌, false};
-ghost use Rattle.std.specs.List.{fold};
+ghost use Rattle.std.specs.Prelude.{◌≡◌};
+ghost use Rattle.std.specs.List.{list_any};
 ghost use Rattle.sound_rows.specs.Rows as Rows;
 
 use world::{Car, ElevatorPhase, Line, Rider, RiderPhase};
@@ -34,14 +34,11 @@ fn rider_phase_unloaded(cars: usize, phase: RiderPhase) -> bool
     matches!(phase, RiderPhase::Boarding(i) | RiderPhase::Riding(i) | RiderPhase::Exiting(i) if unloaded(cars, i))
 }
 
-// Whether one of the numbers is not loaded. No test ends the search early: so it goes over several numbers at a time.
-// Stays: beside `one_of` of `sound`, of any items and test: here it would be public, and so without the `requires` that its test needs.
+// Whether one of the numbers is not loaded.
 fn one_unloaded(numbers: &[u8], loaded: usize) -> bool
-    ensures { result ≡ fold (λ found n. found || Rows.unloaded loaded n) false numbers.now }
+    ensures { result ≡ list_any (λ n. Rows.unloaded loaded n) numbers.now }
 {
-    numbers
-        .iter()
-        .fold(false, |found, n| found | unloaded(loaded, *n))
+    numbers.iter().any(|n| unloaded(loaded, *n))
 }
 
 // Whether a line has more listed stops than its table holds, or one that is not loaded.
