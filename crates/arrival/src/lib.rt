@@ -113,6 +113,8 @@ pub fn asks_work(trip: Trip, kind: LineKind, arrived: bool) -> bool
 }
 
 // direction_from_remaining_work of a car that goes to a stop.
+// Stays: it matches the trip again, which `asks_work` has found: the record call asks first, so that riders are looked at only then, and
+// the definition of a car's turn has both.
 pub fn work_of(
     trip: Trip,
     riders: &Table<Rider, 128>,

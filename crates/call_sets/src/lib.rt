@@ -1,4 +1,6 @@
 // Hall calls in one direction: a set of stops in a u64. A stop from 64 on is in no set.
+// Stays: the u64 goes by value and comes back, and is no type of its own with `&mut self`: the paper names the sets as 64-bit words, and
+// what the functions promise of one call is a fact on numbers.
 #![tactic(auto)]
 
 ghost use Rattle.std.specs.Prelude.{◌≡◌, true};

@@ -27,6 +27,9 @@ fn max_speed(car: Car) -> f64
     car.motion.max_speed
 }
 
+// Stays: `leader` stands beside `kind` in four functions, though only a loop has a leader: run looks it up among all cars and the line
+// says no more than where, so a kind with its leader would be a second type of line, made for this call alone.
+
 // run, `effective_target`.
 fn effective_target(
     leader: Option<f64>,

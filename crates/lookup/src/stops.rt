@@ -52,7 +52,7 @@ pub fn find_stop_at_position_in(
         .find(|s| stands_at(stop_position(stops, *s), position))
 }
 
-// dispatch/mod.rs, elevator_line_serves
+// dispatch/mod.rs, elevator_line_serves: an entry of the library, which no crate here calls.
 #[tactic(auto, unfolding(crate::specs::Stops::elevator_line_serves))]
 pub fn elevator_line_serves(lines: &[Line; 8], line: u8) -> Serves
     ensures { result ≡ elevator_line_serves lines.now line }

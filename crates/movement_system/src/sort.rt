@@ -9,6 +9,8 @@ use std::marker::Model;
 use world::Stops;
 
 // The stops of a world, and the numbers below their count in the order of their sort.
+// Stays: `order` is no Table: its count is that of the stops, and a second one would have to be shown equal to it in the invariant and
+// at each use.
 #[derive(Drop)]
 pub struct SortedStops {
     stops: Stops,

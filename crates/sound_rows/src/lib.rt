@@ -1,9 +1,9 @@
-// Refusal 0, a row of a table at a time: whether a lent line, car or rider has a count, a queue, a counter or a number that records
-// never make.
+// Refusal 0, a row of a table at a time: whether a line, car or rider has a count, a queue, a counter or a number that records never
+// make.
 #![tactic(auto)]
 
-ghost use Rattle.std.specs.Prelude.{◌≡◌, ◌||◌, false};
-ghost use Rattle.std.specs.List.{fold};
+ghost use Rattle.std.specs.Prelude.{◌≡◌};
+ghost use Rattle.std.specs.List.{list_any};
 ghost use Rattle.sound_rows.specs.Rows as Rows;
 
 use world::{Car, ElevatorPhase, Line, Rider, RiderPhase};
@@ -25,31 +25,20 @@ fn option_unloaded(loaded: usize, number: Option<u8>) -> bool
 fn phase_unloaded(stops: usize, phase: ElevatorPhase) -> bool
     ensures { result ≡ Rows.phase_unloaded stops phase }
 {
-    match phase {
-        ElevatorPhase::MovingToStop(s) | ElevatorPhase::Repositioning(s) => unloaded(stops, s),
-        _ => false,
-    }
+    matches!(phase, ElevatorPhase::MovingToStop(s) | ElevatorPhase::Repositioning(s) if unloaded(stops, s))
 }
 
 fn rider_phase_unloaded(cars: usize, phase: RiderPhase) -> bool
     ensures { result ≡ Rows.rider_phase_unloaded cars phase }
 {
-    match phase {
-        RiderPhase::Boarding(i) | RiderPhase::Riding(i) | RiderPhase::Exiting(i) => {
-            unloaded(cars, i)
-        }
-        _ => false,
-    }
+    matches!(phase, RiderPhase::Boarding(i) | RiderPhase::Riding(i) | RiderPhase::Exiting(i) if unloaded(cars, i))
 }
 
-// Whether one of the numbers is not loaded. No test ends the search early: so it goes over several numbers at a time.
-// Stays: beside `one_of` of `sound`, of any items and test: here it would be public, and so without the `requires` that its test needs.
+// Whether one of the numbers is not loaded.
 fn one_unloaded(numbers: &[u8], loaded: usize) -> bool
-    ensures { result ≡ fold (λ found n. found || Rows.unloaded loaded n) false numbers.now }
+    ensures { result ≡ list_any (λ n. Rows.unloaded loaded n) numbers.now }
 {
-    numbers
-        .iter()
-        .fold(false, |found, n| found | unloaded(loaded, *n))
+    numbers.iter().any(|n| unloaded(loaded, *n))
 }
 
 // Whether a line has more listed stops than its table holds, or one that is not loaded.
@@ -58,10 +47,7 @@ pub fn line_broken(stops: usize, line: Line) -> bool
     ensures { result ≡ Rows.line_broken stops line }
 {
     let listed = line.serves.stops;
-    if 64 < listed.count {
-        return true;
-    }
-    one_unloaded(listed.as_slice(), stops)
+    64 < listed.count || one_unloaded(listed.as_slice(), stops)
 }
 
 // Whether a car has a queue, a counter or a number that records never make.
@@ -70,15 +56,13 @@ pub fn car_broken(lines: usize, stops: usize, car: Car) -> bool
     ensures { result ≡ Rows.car_broken lines stops car }
 {
     let queue = car.destination_queue;
-    if 8 < queue.count {
-        return true;
-    }
-    (8 < car.door_command_queue.count)
-        | (0x1_0000_0000_0000 <= car.move_count)
-        | unloaded(lines, car.line)
-        | phase_unloaded(stops, car.phase)
-        | option_unloaded(stops, car.target_stop)
-        | one_unloaded(queue.as_slice(), stops)
+    8 < queue.count
+        || (8 < car.door_command_queue.count)
+            | (0x1_0000_0000_0000 <= car.move_count)
+            | unloaded(lines, car.line)
+            | phase_unloaded(stops, car.phase)
+            | option_unloaded(stops, car.target_stop)
+            | one_unloaded(queue.as_slice(), stops)
 }
 
 // Whether a rider names a stop or a car that is not loaded.

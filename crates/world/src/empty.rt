@@ -3,8 +3,7 @@ ghost use Rattle.std.specs.Prelude.{◌≡◌};
 ghost use Rattle.world.specs.World.{new_car, empty_car, empty_world};
 
 use crate::{
-    Calls, Car, CarPlan, ElevatorPhase, Lamps, Line, LineKind, Rider, RiderPhase, Serves,
-    ServiceMode, Table, World,
+    Calls, Car, CarPlan, ElevatorPhase, Lamps, Line, Rider, RiderPhase, ServiceMode, Table, World,
 };
 use door::{DoorCommand, DoorState};
 
@@ -46,10 +45,6 @@ fn empty_car() -> Car
 pub fn empty() -> World
     ensures { result ≡ empty_world }
 {
-    let line = Line {
-        kind: LineKind::Linear,
-        serves: Serves::NONE,
-    };
     let rider = Rider {
         destination: None,
         phase: RiderPhase::Waiting,
@@ -58,7 +53,7 @@ pub fn empty() -> World
     let car = empty_car();
     World {
         stops: Table::of_none(0.0),
-        lines: Table::of_none(line),
+        lines: Table::of_none(Line::NONE),
         cars: Table::of_none(car),
         riders: Table::of_none(rider),
         calls: Calls::NONE,

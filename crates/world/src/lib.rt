@@ -49,6 +49,8 @@ impl<T: Copy, const N: usize> Table<T, N> {
     }
 
     // With one more item at its end; None where it is full.
+    // Stays: it answers a table, and is no `push(&mut self)`: so its promise is one equation, which loads and requests cite as the new table
+    // or the refusal; a push would say in two facts what is lent, where it is full and where it is not.
     pub fn pushed(self, item: T) -> Option<Table<T, N>>
         ensures { result ≡ pushed self item }
     {
@@ -94,6 +96,14 @@ impl Serves {
 pub struct Line {
     pub kind: LineKind,
     pub serves: Serves,
+}
+
+impl Line {
+    // What stands in a line's place before it is loaded: linear, without a list.
+    pub const NONE: Line = Line {
+        kind: LineKind::Linear,
+        serves: Serves::NONE,
+    };
 }
 
 // Position and velocity of a car, and what limits them.
@@ -220,7 +230,7 @@ impl Lamps {
 }
 
 // Hall calls standing in both directions: bit s is the call at stop s.
-#[derive(Clone, Copy)]
+#[derive(Clone, Copy, PartialEq, Eq)]
 pub struct Calls {
     pub up: u64,
     pub down: u64,

@@ -1,16 +1,17 @@
 -- `sound::calls_unloaded` meets its contract. Assumes nothing.
-use mathlib.Core.Path.{sym}
+use mathlib.Core.Path.{sym, ◌∙◌}
 use Prim.Native.Nat.{◌^◌}
 use native.Mathlib.Omega.{arith}
 use lib.Pow.{pow_mono}
-use borrow.Author.Tests.{lt-leb}
+use borrow.Author.Tests.{lt-leb, le-ltb}
 use Rattle.call_sets.proofs.Bits.{bit_of}
 use Rattle.sound.proofs.calls_unloaded.Goals as goal
 
-pub returns-then-stops-ge64 : goal.returns-then-stops-ge64
-returns-then-stops-ge64 c =
-    let stops = c.args.stops in
-    sym (lt-leb (2 ^ stops) c.args.calls (omega (arith, pow_mono {i = 64} {j = stops} c.if-stops-ge64.true)))
+pub returns-then-stops-lt64 : goal.returns-then-stops-lt64
+returns-then-stops-lt64 c = rw (bit_of c.args.stops c.if-stops-lt64.true)
 
-pub returns : goal.returns
-returns c = rw (bit_of c.args.stops c.if-stops-ge64.false)
+pub returns-else-stops-lt64 : goal.returns-else-stops-lt64
+returns-else-stops-lt64 c =
+    let stops = c.args.stops in
+    le-ltb stops 64 c.if-stops-lt64.false
+    ∙ sym (lt-leb (2 ^ stops) c.args.calls (omega (arith, pow_mono {i = 64} {j = stops} c.if-stops-lt64.false)))

@@ -5,9 +5,9 @@ use Rattle.sound_rows.specs.Rows.{line_broken, unloaded}
 use Rattle.sound_rows.proofs.AnyTo.{any_of_table}
 use Rattle.sound_rows.proofs.line_broken.Goals as goal
 
-pub returns : goal.returns
+pub returns-else-listed-gt64 : goal.returns-else-listed-gt64
 unfolding line_broken
-returns c =
+returns-else-listed-gt64 c =
     let few = c.if-listed-gt64.false in
     rw (le-ltb 64 c.args.line.serves.stops.count few)
     (c.one_unloaded.ensures ∙ any_of_table (unloaded c.args.stops) c.args.line.serves.stops 0 c.as_slice.ensures.items c.as_slice.ensures.len few)
