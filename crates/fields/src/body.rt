@@ -41,8 +41,8 @@ pub fn raw_zero_at(words: &[u32], at: u8) -> bool
     (word_at(words, high) == 0) & (word_at(words, high + 1) == 0)
 }
 
-// Stays: the three below are not `contains` of a range. Where `most` is a NaN, `contains` is false and every float would be outside; `x > most` is
-// false too, and only the other tests count.
+// Stays: the three below are not `!(-most..=most).contains(&x)` and its like. They promise an answer for every `most`: an infinite `x` is outside where
+// `most` is infinite too, and a NaN for `most` puts no finite `x` above it. `contains` says otherwise of both, and a public function asks no condition.
 
 // Not finite, or above `most` in size.
 pub fn outside_size(x: f64, most: f64) -> bool
