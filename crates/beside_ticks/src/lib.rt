@@ -21,16 +21,11 @@ struct Played {
     written: u64,
 }
 
-const NOTHING: Accepted = Accepted {
-    used: 0,
-    written: 0,
-};
-
 // What the record used and wrote, nothing where it was refused.
 fn told_by(answer: Answer) -> Accepted
     ensures { (result.used ≡ used_of answer) × (result.written ≡ written_of answer) }
 {
-    answer.unwrap_or(NOTHING)
+    answer.unwrap_or_default()
 }
 
 // By the call that takes the world by value.

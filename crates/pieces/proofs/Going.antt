@@ -29,7 +29,6 @@ use Rattle.play.specs.Play.{told, counts_after, uses, ending, Tells}
 use Rattle.pieces.specs.Pieces.{Playing, next_record, ready, goes, play_to, ends, closed, close, advanced, playing, Gives}
 use Rattle.pieces.specs.Parts.{IsEmpty, Reached, ClosesBy, Closes}
 use Rattle.pieces.specs.declared.Study.{Study}
-use Rattle.pieces.specs.declared.Played.{Played}
 use Rattle.pieces.specs.declared.Advanced.{Advanced}
 use Rattle.pieces.proofs.Sizes.{words_drop, words_few, told_length, ending_length}
 
@@ -212,7 +211,7 @@ rest_of piece words from e = take_all (length words - from) (drop from words) (r
 pub reached : (ended : Bool) (p₀ : Playing) (piece : List ℕ) (out₀ : Writer ℕ) (log : List ℕ) (out : Writer ℕ) (s : Study) (from : ℕ)
     → Going ended p₀ piece out₀ log out s from
     → goes ended s.over (length (words_of piece) - from) out.at ≡ false
-    → Reached (record { study = s; from = from }) piece out₀ log out (play_to (2 + length piece) ended p₀)
+    → Reached s from piece out₀ log out (play_to (2 + length piece) ended p₀)
 reached ended p₀ piece out₀ log out s from g e =
     rw (stopped ended p₀ piece out₀ log out s from g e)
     (record { world = refl; counts = refl; over = refl; log = refl; bytes = refl; within = g.within; text = g.told; at = g.at })
@@ -235,35 +234,32 @@ pub not_at_end : (e : Bool) (s : Study) (left : ℕ) (out : Writer ℕ) → e �
 not_at_end e s left out t = rw t (record { ended = refl; text = told_none })
 
 -- the records, then the tape's end, then the bytes that are kept: a writer of the whole buffer `out`, after the records, and at the end, when the buffer is `out'`
-module _ (piece out lent' out' piece' : List ℕ) (w w₁ w₂ : Writer ℕ) (opened : w.items.now ≡ out) (start : w.at ≡ 0) (shut : w₂.items.now ≡ out') (end : ℕ) (ended : Bool) (r : Played)
+module _ (piece out lent' out' piece' : List ℕ) (w w₁ w₂ : Writer ℕ) (opened : w.items.now ≡ out) (start : w.at ≡ 0) (shut : w₂.items.now ≡ out') (end : ℕ) (ended : Bool) (s : Study) (from : ℕ)
     (over : Bool) (kept : ℕ) where
   -- what the code makes of them
   abbrev made : Advanced
-  made = record { study = record { world = r.study.world; counts = r.study.counts; over = over }; held = kept; at = w₂.at }
+  made = record { study = record { world = s.world; counts = s.counts; over = over }; held = kept; at = w₂.at }
 
   closes : (p : Playing)
       → length out ≡ 65536
       → end ≤ length piece
-      → Reached r (take end piece) w lent' w₁ p
-      → Closes r.study ended (end - r.from * 4) w₁ over w₂
-      → Wrote piece 0 (drop (r.from * 4) (take end piece)) piece' kept
+      → Reached s from (take end piece) w lent' w₁ p
+      → Closes s ended (end - 4 * from) w₁ over w₂
+      → Wrote piece 0 (drop (4 * from) (take end piece)) piece' kept
       → Gives made piece out piece' lent' out' (close ended p)
   unfolding close
   closes p o h g k keeps =
       rw same_test
-      (go (ends ended r.study.over ((end - r.from * 4) / 4) w₁.at) refl k)
+      (go (ends ended s.over ((end - 4 * from) / 4) w₁.at) refl k)
     where
-      four : r.from * 4 ≡ 4 * r.from
-      four = omega arith
-
-      left_is : length p.bytes ≡ end - r.from * 4
+      left_is : length p.bytes ≡ end - 4 * from
       left_is = rw (← g.bytes) (simp (length-drop, length-take) (omega arith))
 
-      same_test : ends ended p.over (length (words_of p.bytes)) (length p.text) ≡ ends ended r.study.over ((end - r.from * 4) / 4) w₁.at
+      same_test : ends ended p.over (length (words_of p.bytes)) (length p.text) ≡ ends ended s.over ((end - 4 * from) / 4) w₁.at
       same_test = rw (← g.over, ← g.at, words_of_count p.bytes, left_is)
 
       held_is : Wrote piece 0 p.bytes piece' kept
-      held_is = rw (← g.bytes, ← four) keeps
+      held_is = rw (← g.bytes) keeps
 
       stands_there : (text : List ℕ) → Prints w text w₂ → Wrote out 0 text out' w₂.at
       stands_there text t = rw (opened, start, shut) at t.wrote
@@ -271,9 +267,9 @@ module _ (piece out lent' out' piece' : List ℕ) (w w₁ w₂ : Writer ℕ) (op
       all_fits : length p.text ≤ length out
       all_fits = omega (arith, g.text.wrote.next, g.at, start, ap length opened)
 
-      go : (e : Bool) → ends ended r.study.over ((end - r.from * 4) / 4) w₁.at ≡ e → ClosesBy e r.study (end - r.from * 4) w₁ over w₂ → Gives made piece out piece' lent' out' (cond e (closed p) p)
+      go : (e : Bool) → ends ended s.over ((end - 4 * from) / 4) w₁.at ≡ e → ClosesBy e s (end - 4 * from) w₁ over w₂ → Gives made piece out piece' lent' out' (cond e (closed p) p)
       go true e k =
-          let small : w₁.at < 32768 = ltb-true w₁.at 32768 (and_right (eqb ((end - r.from * 4) / 4) 0) _ (and_right (not r.study.over) _ (and_right ended _ e))) in
+          let small : w₁.at < 32768 = ltb-true w₁.at 32768 (and_right (eqb ((end - 4 * from) / 4) 0) _ (and_right (not s.over) _ (and_right ended _ e))) in
           record {
             world = g.world;
             counts = g.counts;
@@ -296,9 +292,9 @@ module _ (piece out lent' out' piece' : List ℕ) (w w₁ w₂ : Writer ℕ) (op
   pub advances : (study : Study) (log : List ℕ) (held : ℕ)
       → length out ≡ 65536
       → end ≡ min held (length piece)
-      → Reached r (take end piece) w lent' w₁ (play_to (2 + length (take end piece)) ended (playing study log (take end piece)))
-      → Closes r.study ended (end - r.from * 4) w₁ over w₂
-      → Wrote piece 0 (drop (r.from * 4) (take end piece)) piece' kept
+      → Reached s from (take end piece) w lent' w₁ (play_to (2 + length (take end piece)) ended (playing study log (take end piece)))
+      → Closes s ended (end - 4 * from) w₁ over w₂
+      → Wrote piece 0 (drop (4 * from) (take end piece)) piece' kept
       → Gives made piece out piece' lent' out' (advanced ended (playing study log (take held piece)))
   unfolding advanced
   advances study log held o e g k keeps =

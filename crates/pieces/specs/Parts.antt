@@ -5,7 +5,6 @@ use Rattle.log_writes.specs.declared.Writer.{Writer}
 use Rattle.study_text.specs.Text.{words_of}
 use Rattle.play.specs.Play.{ending}
 use Rattle.pieces.specs.declared.Study.{Study}
-use Rattle.pieces.specs.declared.Played.{Played}
 use Rattle.pieces.specs.Pieces.{Playing, ends}
 
 -- the buffer of 65,536 bytes, with nothing printed into it yet
@@ -14,13 +13,13 @@ pub record IsEmpty (out : Writer ℕ) : Type 0 where
   pub room : length out.items.now ≡ 65536
 
 -- the records of a piece: where they ended, and what they left
-pub record Reached (r : Played) (piece : List ℕ) (out : Writer ℕ) (lent' : List ℕ) (out' : Writer ℕ) (p : Playing) : Type 0 where
-  pub world : r.study.world ≡ p.world
-  pub counts : r.study.counts ≡ p.counts
-  pub over : r.study.over ≡ p.over
+pub record Reached (s : Study) (from : ℕ) (piece : List ℕ) (out : Writer ℕ) (lent' : List ℕ) (out' : Writer ℕ) (p : Playing) : Type 0 where
+  pub world : s.world ≡ p.world
+  pub counts : s.counts ≡ p.counts
+  pub over : s.over ≡ p.over
   pub log : lent' ≡ p.log
-  pub bytes : drop (4 * r.from) piece ≡ p.bytes
-  pub within : r.from ≤ length (words_of piece)
+  pub bytes : drop (4 * from) piece ≡ p.bytes
+  pub within : from ≤ length (words_of piece)
   pub text : Prints out p.text out'
   pub at : out'.at ≡ length p.text
 

@@ -1,7 +1,7 @@
 // The study by pieces of its input: the records of the bytes at hand, and the end of the tape.
 #![tactic(auto)]
 
-ghost use Rattle.std.specs.Prelude.{◌≡◌, true, ◌+◌, ◌≤◌, min, length, take};
+ghost use Rattle.std.specs.Prelude.{◌≡◌, ◌+◌, ◌≤◌, length, take};
 ghost use Rattle.study_text.specs.Text.{words_of};
 ghost use Rattle.pieces.specs.Pieces.{Gives, advanced, playing, play_to, fresh};
 ghost use Rattle.pieces.specs.Pieces.{goes as goes_on};
@@ -53,49 +53,43 @@ fn goes(ended: bool, over: bool, words: usize, at: usize) -> bool
     !over & (((69 <= words) | (ended & (0 < words))) & (at < 32768))
 }
 
-// The study after the records of a piece, and where they ended in its words.
-#[derive(Clone, Copy)]
-struct Played {
-    study: Study,
-    from: usize,
-}
-
-// The records of the piece, whose words these are, as long as the next one is ready and its text has room.
+// The records of the piece, whose words these are, as long as the next one is ready and its text has room. Answers where they ended in the words.
+// Stays: study, ended, log and out side by side, here and below. The study goes on to the next piece, `ended` is of this one, and the two buffers are
+// the program's, lent for one call: a struct of them would be three lent fields that `record_in_place` and `tell_answer` take apart again.
 fn play_words(
-    study: Study,
+    study: &mut Study,
     piece: &[u8],
     words: &[u32],
     ended: bool,
     log: &mut [u32; 2048],
     out: &mut Text,
-) -> Played
+) -> usize
     requires words { words.now ≡ words_of piece.now }
     requires empty { IsEmpty out.old }
-    ensures { Reached result piece.now out.old log.new out.new (play_to (2 + length piece.now) ended (playing study log.old piece.now)) }
+    ensures { Reached study.new result piece.now out.old log.new out.new (play_to (2 + length piece.now) ended (playing study.old log.old piece.now)) }
 {
-    let mut after = study;
     let mut from: usize = 0;
     // Stays: a while: its condition asks what was told last, and a record says itself how many words it used.
-    while goes(ended, after.over, words.len() - from, out.at) {
-        let answer = record_in_place(&mut after.world, &words[from..], log);
-        let used = tell_answer(answer, &mut after.counts, log, out);
-        after.over = used.is_none();
+    while goes(ended, study.over, words.len() - from, out.at) {
+        let answer = record_in_place(&mut study.world, &words[from..], log);
+        let used = tell_answer(answer, &mut study.counts, log, out);
+        study.over = used.is_none();
         from += used.unwrap_or(0);
     }
-    Played { study: after, from }
+    from
 }
 
 // The records of these bytes.
 fn play_bytes(
-    study: Study,
+    study: &mut Study,
     bytes: &[u8],
     ended: bool,
     log: &mut [u32; 2048],
     out: &mut Text,
-) -> Played
+) -> usize
     requires few { length bytes.now ≤ 16384 }
     requires empty { IsEmpty out.old }
-    ensures { Reached result bytes.now out.old log.new out.new (play_to (2 + length bytes.now) ended (playing study log.old bytes.now)) }
+    ensures { Reached study.new result bytes.now out.old log.new out.new (play_to (2 + length bytes.now) ended (playing study.old log.old bytes.now)) }
 {
     let mut words = [0u32; 4096];
     let mut read = Writer::new(&mut words);
@@ -110,9 +104,7 @@ fn close(study: Study, ended: bool, left: usize, out: &mut Text) -> bool
     ensures { Closes study ended left out.old result out.new }
 {
     if ended & (!study.over & ((left / 4 == 0) & (out.at < 32768))) {
-        let world = study.world;
-        let counts = study.counts;
-        finish(world, counts, left, out);
+        finish(study.world, study.counts, left, out);
         return true;
     }
     study.over
@@ -122,7 +114,7 @@ fn close(study: Study, ended: bool, left: usize, out: &mut Text) -> bool
 // of `out`; the bytes that no record used are moved to the piece's start.
 #[tactic(auto, using(crate::proofs::Sizes::taken_few))]
 pub fn advance(
-    study: Study,
+    mut study: Study,
     piece: &mut [u8; 16384],
     held: usize,
     ended: bool,
@@ -133,12 +125,10 @@ pub fn advance(
 {
     let end = held.min(piece.len());
     let mut text = Writer::new(out);
-    let played = play_bytes(study, &piece[..end], ended, log, &mut text);
-    let after = played.study;
-    let used = played.from * 4;
-    let over = close(after, ended, end - used, &mut text);
+    let used = 4 * play_bytes(&mut study, &piece[..end], ended, log, &mut text);
+    study.over = close(study, ended, end - used, &mut text);
     Advanced {
-        study: Study { over, ..after },
+        study,
         held: keep(piece, used, end),
         at: text.at,
     }
