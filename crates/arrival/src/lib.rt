@@ -9,17 +9,16 @@ use trips::{Trip, is_loop};
 use world::{Car, Lamps, LineKind, Queue, Rider, Table};
 
 // needs_up and needs_down with one more position.
-fn needing(lamps: Lamps, position: f64, stop: f64) -> Lamps
+fn needing(mut lamps: Lamps, position: f64, stop: f64) -> Lamps
     ensures { result ≡ Arrival.needing lamps position stop }
 {
     // Stays: with a literal of `..lamps` each rider costs both tests, and a tenth more instructions in all.
-    let mut needed = lamps;
     if position > stop {
-        needed.going_up = true;
+        lamps.going_up = true;
     } else if position < stop {
-        needed.going_down = true;
+        lamps.going_down = true;
     }
-    needed
+    lamps
 }
 
 // With one more rider, where it is aboard the car and has a destination.
@@ -83,7 +82,7 @@ pub fn direction_from_remaining_work(
     both_if_none(queue_needs(queue, stops, aboard, stop))
 }
 
-// Stays: the eight written out become one shift of a word; copy_within goes through memory.
+// Stays: written out, as the definition has it: `copy_within` would take a copy of the items, the move, and 0 for the last one.
 fn shifted(q: [u8; 8]) -> [u8; 8]
     ensures { result ≡ Arrival.shifted q }
 {

@@ -1,23 +1,33 @@
 -- Whether one of a table's items passes a test, by their numbers. Assumes nothing.
-use Rattle.std.proofs.Common.{◌≡◌, ◌≤◌, ◌<◌, ℕ, zero, suc, Bool, List, length, get_or, min, refl, arith, length-take}
-use mathlib.Core.Bool.{false}
+use Rattle.std.proofs.Common.{◌≡◌, ◌≤◌, ◌<◌, ℕ, zero, suc, Bool, List, length, get_or, take, min, refl, arith, length-take}
+use mathlib.Core.Bool.{false, ◌||◌}
 use mathlib.Core.Logic.{⊎_elim}
-use Rattle.std.specs.List.{list_any}
+use Rattle.std.specs.List.{fold, list_any}
 use Rattle.std.proofs.lemmas.Bool.{cases_eq}
 use Rattle.laws.proofs.Bools.{or_left, or_right}
-use Rattle.laws.proofs.Folding.{list_any_to}
+use Rattle.laws.proofs.Folding.{fold_to, list_any_to}
 use Rattle.world.specs.Tables.{listed}
 use Rattle.world.specs.declared.Table.{Table}
 use Rattle.sound_rows.specs.Rows.{any_to}
 
 -- of the items that are there, where their count is not above the table's size
-pub any_of_table : {X : Type 0} {m : ℕ} (p : X → Bool) (t : Table X m) (d : X) {xs : List X} → xs ≡ listed t → length xs ≡ min t.count m → t.count ≤ m
-    → list_any p xs ≡ any_to (λ k. p (get_or t.items k d)) t.count
-unfolding any_to
-any_of_table {X} {m} p t d e h few =
-    let all : min t.count m ≡ t.count = omega (arith, few) in
-    let fits : t.count ≤ length t.items = omega (arith, length-take (min t.count m) t.items, rw e at h) in
-    rw (e, all) (list_any_to p t.items d (any_to (λ k. p (get_or t.items k d))) refl (λ k. refl) t.count fits)
+module _ {X : Type 0} {m : ℕ} (p : X → Bool) (t : Table X m) (d : X) where
+  all_there : {xs : List X} → xs ≡ listed t → length xs ≡ min t.count m → t.count ≤ m → (t.count ≤ length t.items) × (xs ≡ take t.count t.items)
+  all_there e h few =
+      let all : min t.count m ≡ t.count = omega (arith, few) in
+      (omega (arith, length-take (min t.count m) t.items, rw e at h), rw (e, all))
+
+  pub any_of_table : {xs : List X} → xs ≡ listed t → length xs ≡ min t.count m → t.count ≤ m
+      → list_any p xs ≡ any_to (λ k. p (get_or t.items k d)) t.count
+  unfolding any_to
+  any_of_table e h few =
+      let a = all_there e h few in rw a.1 (list_any_to p t.items d (any_to (λ k. p (get_or t.items k d))) refl (λ k. refl) t.count a.0)
+
+  pub fold_of_table : {xs : List X} → xs ≡ listed t → length xs ≡ min t.count m → t.count ≤ m
+      → fold (λ found x. found || p x) false xs ≡ any_to (λ k. p (get_or t.items k d)) t.count
+  unfolding any_to
+  fold_of_table e h few =
+      let a = all_there e h few in rw a.1 (fold_to (λ found x. found || p x) false t.items d (any_to (λ k. p (get_or t.items k d))) refl (λ k. refl) t.count a.0)
 
 -- none of the first n
 pub none_to : (f : ℕ → Bool) (n : ℕ) → ((k : ℕ) → k < n → f k ≡ false) → any_to f n ≡ false

@@ -2,12 +2,12 @@
 use Rattle.std.proofs.Common.{◌∙◌}
 use borrow.Author.Tests.{le-ltb}
 use Rattle.sound_rows.specs.Rows.{car_broken, unloaded}
-use Rattle.sound_rows.proofs.AnyTo.{any_of_table}
+use Rattle.sound_rows.proofs.AnyTo.{fold_of_table}
 use Rattle.sound_rows.proofs.car_broken.Goals as goal
 
 pub returns-else-queue-gt8 : goal.returns-else-queue-gt8
 unfolding car_broken
 returns-else-queue-gt8 c =
     let few = c.if-queue-gt8.false in
-    let queue = c.one_unloaded.ensures ∙ any_of_table (unloaded c.args.stops) c.args.car.destination_queue 0 c.as_slice.ensures.items c.as_slice.ensures.len few in
+    let queue = c.one_unloaded.ensures ∙ fold_of_table (unloaded c.args.stops) c.args.car.destination_queue 0 c.as_slice.ensures.items c.as_slice.ensures.len few in
     rw (le-ltb 8 c.args.car.destination_queue.count few, queue, c.option_unloaded.ensures, c.phase_unloaded.ensures, c.unloaded.ensures)

@@ -2,7 +2,7 @@
 use Rattle.std.proofs.Common.{◌∙◌}
 use borrow.Author.Tests.{le-ltb}
 use Rattle.sound_rows.specs.Rows.{line_broken, unloaded}
-use Rattle.sound_rows.proofs.AnyTo.{any_of_table}
+use Rattle.sound_rows.proofs.AnyTo.{fold_of_table}
 use Rattle.sound_rows.proofs.line_broken.Goals as goal
 
 pub returns-else-listed-gt64 : goal.returns-else-listed-gt64
@@ -10,4 +10,4 @@ unfolding line_broken
 returns-else-listed-gt64 c =
     let few = c.if-listed-gt64.false in
     rw (le-ltb 64 c.args.line.serves.stops.count few)
-    (c.one_unloaded.ensures ∙ any_of_table (unloaded c.args.stops) c.args.line.serves.stops 0 c.as_slice.ensures.items c.as_slice.ensures.len few)
+    (c.one_unloaded.ensures ∙ fold_of_table (unloaded c.args.stops) c.args.line.serves.stops 0 c.as_slice.ensures.items c.as_slice.ensures.len few)
