@@ -92,6 +92,8 @@ fn words_of(alloc: Global, tape: &str) -> Result<Vec<u32>> {
 }
 
 // A heading as it is, or a tape's name and its answer.
+// Stays: here and in examples_ticks. This one prints at once and after the play, what that answered; that one writes the name before it, as each tick is
+// written on the way, and to a buffer.
 fn answer(rt: &(impl Print + AllocGlobal), line: &str) -> Result<()> {
     let Some((name, tape)) = line.split_once('=') else {
         println!(rt; "{line}")?;

@@ -18,6 +18,7 @@ fn words_of(alloc: Global, tape: &str) -> Result<Vec<u32>> {
 }
 
 // A heading as it is, or a tape's name and what its records give.
+// Stays: here and in examples_records. This one writes the name to a buffer before the play, which writes each tick; that one prints after it, what it answered.
 fn answer<W: Write>(out: &mut W, log: &mut [u32], alloc: Global, line: &str) -> Result<()> {
     let Some((name, tape)) = line.split_once('=') else {
         writeln!(out, "{line}")?;
