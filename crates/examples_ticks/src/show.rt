@@ -125,12 +125,7 @@ struct Destinations<'a>(&'a Car);
 impl fmt::Display for Destinations<'_> {
     fn fmt<W: fmt::Write>(&self, f: &mut fmt::Formatter<W>) -> fmt::Result {
         let car = self.0;
-        for stop in car
-            .destination_queue
-            .items
-            .iter()
-            .take(car.destination_queue.count)
-        {
+        for stop in car.destination_queue.as_slice() {
             write!(f, "{}", Stop(*stop))?;
         }
         Ok(())
@@ -145,7 +140,7 @@ impl fmt::Display for Commands<'_> {
     fn fmt<W: fmt::Write>(&self, f: &mut fmt::Formatter<W>) -> fmt::Result {
         let car = self.0;
         let queue = car.door_command_queue;
-        for command in queue.items.iter().take(queue.count) {
+        for command in queue.as_slice() {
             let (code, ticks) = code_and_ticks(*command);
             write!(f, "{code}{ticks:04x}")?;
         }
@@ -199,7 +194,7 @@ impl fmt::Display for Tick<'_> {
             write!(f, "{word:08x} ")?;
         }
         writeln!(f, "")?;
-        for car in world.cars.items.iter().take(world.cars.count) {
+        for car in world.cars.as_slice() {
             writeln!(f, "{}", CarLine(car))?;
         }
         writeln!(

@@ -8,7 +8,7 @@ use lib.Pow.{pow_pos}
 use lib.IntN.{ℤ, pos, negsuc}
 use lib.Ieee.{Float, nan, inf, fin, binary64, up, down, lt, le, eq, neg, is_nan, fits, of_bits}
 use lib.Ieee.Fits.{up_pos}
-use borrow.Author.Tests.{ltb-true, ltb-false, lt-ltb, eqb-true, eq-eqb}
+use borrow.Author.Tests.{ltb-true, ltb-false, lt-ltb, eqb-true}
 use Rattle.std.specs.Float.{NotNan, is_sign_negative}
 use Rattle.laws.proofs.Bools.{no, and_left}
 use Rattle.float.specs.Float as F64
@@ -55,14 +55,6 @@ finite_between nan = refl
 finite_between (inf true) = refl
 finite_between (inf false) = refl
 finite_between (fin s m e) = refl
-
-pub eq_self : (x : Float) → eq x x ≡ not (is_nan x)
-unfolding eq is_nan
-eq_self nan = refl
-eq_self (inf true) = refl
-eq_self (inf false) = refl
-eq_self (fin true m e) = rw (eq-eqb (m * up e * down e) (m * up e * down e) refl)
-eq_self (fin false m e) = rw (eq-eqb (m * up e * down e) (m * up e * down e) refl)
 
 -- ---- the library's methods
 

@@ -9,6 +9,7 @@ use world::{Line, Serves, Stops, Table};
 const STOP_POSITION_EPSILON: f64 = 1e-6;
 
 // world.rs, stop_position. Not a number past the table.
+// Stays: the positions alone, here and where a stop is looked up by its number: what lies past the count is read too, and a `&Stops` would not say so.
 #[tactic(auto, using(crate::proofs::Standing::past_the_table))]
 pub fn stop_position(stops: &[f64; 64], s: u8) -> f64
     ensures { result ≡ stop_at stops.now s }

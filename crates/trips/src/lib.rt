@@ -42,6 +42,7 @@ pub fn trip_of(car: Car) -> Trip
     trip_by(car.phase)
 }
 
+// Stays: one comparison, as an entry with a promise of its own: the record call asks it of every car.
 pub fn is_trip(trip: Trip) -> bool
     ensures { result ≡ Trips.is_trip trip }
 {

@@ -8,6 +8,7 @@ use crate::{
 use door::{DoorCommand, DoorState};
 
 // A car as it is loaded.
+// Stays: here and below a function by the paper's words. `From` and `Default` would promise the same, and say neither "loaded" nor "empty".
 pub fn new_car(plan: CarPlan) -> Car
     ensures { result ≡ new_car plan }
 {
