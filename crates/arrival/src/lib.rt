@@ -90,6 +90,7 @@ fn shifted(q: [u8; 8]) -> [u8; 8]
 }
 
 // The queue without its front, where that is the stop.
+// Stays: of a car, whose queue it is, and asked by count and first item, as the definition has them beside the Rust's `queue.front()`.
 #[tactic(auto, unfolding(crate::specs::Arrival::popped))]
 pub fn popped(car: Car, s: u8) -> Queue<u8>
     ensures { result ≡ Arrival.popped car s }

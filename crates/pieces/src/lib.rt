@@ -36,6 +36,7 @@ pub struct Advanced {
 }
 
 // A study of a tape of which nothing is read yet.
+// Stays: a function and no Default, as `world::empty` is.
 pub fn begin() -> Study
     ensures { result ≡ fresh }
 {

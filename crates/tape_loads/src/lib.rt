@@ -28,6 +28,7 @@ fn serves_count(v: u32) -> Result<usize, Refusal>
 }
 
 // The first `count` served words in order as stops, and zeros; refused where one is no stop's number.
+// Stays: the array alone, by `enumerate`. As a Table, pushed into, each push would answer an Option that its bound rules out.
 #[tactic(auto, using(crate::proofs::Serves::served), unfolding(crate::specs::LoadRecords::serves_outside, crate::specs::LoadRecords::serves_to))]
 fn serves_to(words: &[u32], count: usize) -> Result<[u8; 64], Refusal>
     requires { (count ≤ 64) × (5 + count ≤ length words.now) }
