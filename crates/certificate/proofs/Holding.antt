@@ -2,7 +2,7 @@
 use mathlib.Core.Path.{◌≡◌, refl, ◌∙◌}
 use mathlib.Core.Bool.{Bool, false}
 use mathlib.Core.List.{List, ◌++◌, append-nil, append_assoc}
-use Prim.Native.Nat.{ℕ, suc, ◌<◌, ◌≤◌, min}
+use Prim.Native.Nat.{ℕ, suc, ◌*◌, ◌^◌, ◌<◌, ◌≤◌, min}
 use native.Mathlib.Omega.{arith}
 use lib.ListN.{length, set, length-set}
 use lib.Seq.{get_or-set_same, get_or-set_other}
@@ -14,6 +14,8 @@ use Rattle.world.specs.declared.Car.{Car}
 use Rattle.steps.specs.Steps.{Step, Run, run_to, run_cars}
 use Rattle.steps.proofs.Cars.{by_turns, kept}
 use Rattle.tick.specs.Counters.{moves_in, sum_to}
+use Rattle.report.specs.Report.{any_unknown}
+use Rattle.report.proofs.Counted.{any_unknown_append}
 use Rattle.certificate.proofs.Watch.{open_after, Calm, open_append, calm_append, Silent}
 use Rattle.certificate.proofs.Turns.{Fit, Good}
 
@@ -23,12 +25,15 @@ pub record Held (n : ℕ) (cs : List Car) (count : ℕ) (log : List ℕ) : Type 
   -- no word of a car that is not loaded yet
   pub fresh : count ≤ n → open_after n false log ≡ false
   pub calm : Calm n false log
+  pub known : any_unknown log ≡ false
 
--- the total, the cars' counters and the log's moves
-pub record Summed (cs : List Car) (count total : ℕ) (log : List ℕ) : Type 0 where
+-- the total, the cars' counters and the log's moves; and the log's length by the ticks that have been made
+pub record Summed (cs : List Car) (count total ticks : ℕ) (log : List ℕ) : Type 0 where
   pub full : length cs ≡ 16
   pub cars : total ≡ sum_to (λ i. (car_at cs i).move_count) count
   pub words : total ≡ moves_in log
+  pub time : ticks ≤ 2 ^ 28
+  pub room : length log ≤ ticks * 1249
 
 -- words that say nothing of the car, which stays as it is
 pub held_same : {n : ℕ} {cs ds : List Car} {count : ℕ} {log ws : List ℕ} → Held n cs count log → car_at ds n ≡ car_at cs n → Silent n ws
@@ -37,6 +42,7 @@ held_same {n} {cs} {ds} {count} {log} {ws} h e d = record {
   fit = λ l. rw (e, open_append n false log ws, (d (open_after n false log)).own) (h.fit l);
   fresh = λ l. open_append n false log ws ∙ (d (open_after n false log)).own ∙ h.fresh l;
   calm = calm_append n false log ws h.calm (d (open_after n false log)).calm;
+  known = rw (any_unknown_append log ws, h.known) (d false).known;
 }
 
 -- its own turn: the car that it leaves, and its words
@@ -46,6 +52,7 @@ held_own {n} {cs} {count} {log} {ws} {c} h inside l g = record {
   fit = λ _. rw (get_or-set_same cs n c no_car inside, open_append n false log ws, g.told.own) g.fit;
   fresh = λ m. absurd (omega (arith, l, m));
   calm = calm_append n false log ws h.calm g.told.calm;
+  known = rw (any_unknown_append log ws, h.known) g.told.known;
 }
 
 -- the turn of car i

@@ -1,21 +1,23 @@
--- What holds with Manual mode, and the third condition from it. Assumes nothing.
+-- What holds with Manual mode, the third condition from it, and the joined log's length and kinds. Assumes nothing.
 use mathlib.Core.Path.{◌≡◌, refl, ◌∙◌}
 use mathlib.Core.Logic.{◌⊎◌, inl, inr}
-use mathlib.Core.Bool.{Bool, true, false, ◌||◌}
+use mathlib.Core.Bool.{Bool, true, false, ◌&&◌, ◌||◌, and-false}
 use mathlib.Core.List.{List, [], ◌∷◌, ◌++◌, append-nil, append_assoc}
 use Prim.Native.Nat.{ℕ, ◌+◌}
 use native.Mathlib.Omega.{arith}
 use lib.Dec.{eqb}
-use borrow.Author.Tests.{eqb-true, eq-eqb}
+use borrow.Author.Tests.{eqb-true, eq-eqb, ne_eqb}
 use Rattle.world.specs.declared.World.{World}
 use Rattle.read_back.specs.ReadBack.{is_kind, car_of}
-use Rattle.layout.specs.Layout.{kind_of}
+use Rattle.layout.specs.Layout.{kind_of, n_of}
 use Rattle.tick.specs.Counters.{is_move, moves_in, sum_to}
-use Rattle.record.specs.Calls.{Empty, Call, next, world_after}
+use Rattle.record.specs.Calls.{Empty, Call, next, head_word, world_after}
 use Rattle.laws.specs.Numbers.{bit}
 use Rattle.laws.specs.Counting.{how_many}
-use Rattle.certificate.specs.Certificate.{NoManual, DoorsHold, told, joined, Is, Between, LogHolds, ThirdCondition}
+use Rattle.report.specs.Report.{any_unknown}
+use Rattle.certificate.specs.Certificate.{puts_manual, NoManual, DoorsHold, told, joined, Is, Between, LogHolds, ThirdCondition}
 use Rattle.certificate.specs.Manual.{NeverManual, DoorHolds, CarHolds, AnyHolds, WithManual}
+use Rattle.certificate.specs.Joined.{JoinedLog}
 use Rattle.certificate.proofs.Watch.{open_after, Calm, is, is_move_of, calm_between}
 use Rattle.certificate.proofs.Records.{Sums, Holds, Kept, call_kept}
 
@@ -41,11 +43,11 @@ calls_kept (c ∷ cs) w j h =
 module _ (w : World) (e : Empty w) where
   empty_sums : Sums w []
   unfolding how_many sum_to
-  empty_sums = record { full = e.places; cars = e.moves ∙ rw e.cars; words = e.moves }
+  empty_sums = record { full = e.places; cars = e.moves ∙ rw e.cars; words = e.moves; time = omega (arith, e.ticks); room = omega arith }
 
   empty_holds : (n : ℕ) → Holds n w []
-  unfolding open_after Calm
-  empty_holds n = record { fit = λ l. absurd (omega (arith, e.cars, l)); fresh = λ l. refl; calm = tt }
+  unfolding open_after Calm any_unknown
+  empty_holds n = record { fit = λ l. absurd (omega (arith, e.cars, l)); fresh = λ l. refl; calm = tt; known = refl }
 
 -- ---- the paper's words
 
@@ -119,3 +121,20 @@ third claim w e calls q =
 
 pub third_condition : ThirdCondition
 third_condition = third with_manual
+
+-- ---- the joined log of any list. No record puts car 16, which there is none, into Manual mode; so what is held of it is held always.
+
+no_car_16 : (b : Bool) (h : ℕ) → b && eqb (n_of h) 16 ≡ false
+unfolding n_of
+no_car_16 b h = rw (ne_eqb (n_of h) 16 (λ e. omega (arith, e))) (and-false b)
+
+none_manual : (calls : List Call) (w : World) → NeverManual w calls 16
+unfolding NeverManual
+none_manual [] w = tt
+none_manual (c ∷ cs) w = (no_car_16 (puts_manual w c) (head_word c), none_manual cs (next w c))
+
+pub joined_log : JoinedLog
+unfolding JoinedLog
+joined_log w e calls =
+    let a : After w calls [] = calls_kept calls w [] (empty_sums w e) in
+    record { size = omega (arith, a.sums.room, a.sums.time); known = (a.cars 16 (empty_holds w e 16) (none_manual calls w)).0.known }

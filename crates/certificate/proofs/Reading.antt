@@ -93,7 +93,7 @@ decoded_reads ws =
     no : (m : ℕ) → eqb m 12 ≡ false → eqb (kind_of h) m ≡ true → (eqb (kind_of h) 12 ≡ false) × Unit {0}
     no m q e = (not_tick m q e, tt)
 
--- ---- a world that is not broken has low counters
+-- ---- a world that is not broken has low counters, and hall calls at its stops alone
 
 count_low : (lines stops : ℕ) (c : Car) → car_broken lines stops c ≡ false → c.move_count < 2 ^ 48
 unfolding car_broken
@@ -109,6 +109,8 @@ count_low lines stops c h =
 pub record Unbroken (w : World) : Type 0 where
   pub low : Low w
   pub few : w.cars.count ≤ 16
+  pub up : w.calls.up < 2 ^ w.stops.count
+  pub down : w.calls.down < 2 ^ w.stops.count
 
 pub unbroken : (w : World) → broken w ≡ false → Unbroken w
 unfolding broken
@@ -119,7 +121,8 @@ unbroken w h =
     let d = any_to (λ i. rider_broken w.stops.count w.cars.count (rider_at w.riders.items i)) w.riders.count in
     let e = calls_unloaded w.stops.count w.calls.up in
     let f = calls_unloaded w.stops.count w.calls.down in
-    let abc = or_left (a || b || c) d (or_left (a || b || c || d) e (or_left (a || b || c || d || e) f h)) in
+    let abcde = or_left (a || b || c || d || e) f h in
+    let abc = or_left (a || b || c) d (or_left (a || b || c || d) e abcde) in
     let k : Counts w = counts_fit w (or_left a b (or_left (a || b) c abc)) in
     let cars = or_right (a || b) c abc in
     record {
@@ -130,4 +133,6 @@ unbroken w h =
         ticks = omega (arith, k.ticks);
       };
       few = k.cars;
+      up = leb-false (2 ^ w.stops.count) w.calls.up (or_right (a || b || c || d) e abcde);
+      down = leb-false (2 ^ w.stops.count) w.calls.down (or_right (a || b || c || d || e) f h);
     }

@@ -2,7 +2,7 @@
 use mathlib.Core.Path.{◌≡◌, refl, sym, ap, subst, ◌∙◌}
 use mathlib.Core.Bool.{Bool, true, false, not, ◌&&◌, cond}
 use mathlib.Core.List.{List, [], ◌++◌, append-nil}
-use Prim.Native.Nat.{ℕ, zero, suc, ◌+◌, ◌<◌, ◌≤◌}
+use Prim.Native.Nat.{ℕ, zero, suc, ◌+◌, ◌^◌, ◌<◌, ◌≤◌}
 use native.Mathlib.Numerals.{add-one}
 use native.Mathlib.Omega.{arith}
 use lib.Dec.{eqb, leb}
@@ -66,7 +66,7 @@ use Rattle.certificate.proofs.Reading.{Says, Reads, Brings, decoded_reads, Unbro
 -- ---- what a record that is no tick leaves
 
 abbrev pub Sums : World → List ℕ → Type 0
-Sums w j = Summed w.cars.items w.cars.count w.total_moves j
+Sums w j = Summed w.cars.items w.cars.count w.total_moves w.ticks j
 
 abbrev pub Holds : ℕ → World → List ℕ → Type 0
 Holds n w j = Held n w.cars.items w.cars.count j
@@ -83,13 +83,15 @@ held_orders {n} {cs} {count} {j} i c h inside l f =
     rw (append-nil j) at
     (held_step {ws = []} i c h inside l (λ e k. record { end = open_after i false j; told = told_none i (open_after i false j); fit = f e k }) (λ e. told_none n))
 
-sum_orders : {cs : List Car} {n t : ℕ} {j : List ℕ} (i : ℕ) (c : Car) → Summed cs n t j → i < length cs → c.move_count ≡ (car_at cs i).move_count
-    → Summed (set cs i c) n t j
-sum_orders {cs} {n} {t} {j} i c s l e = record {
+sum_orders : {cs : List Car} {n t k : ℕ} {j : List ℕ} (i : ℕ) (c : Car) → Summed cs n t k j → i < length cs → c.move_count ≡ (car_at cs i).move_count
+    → Summed (set cs i c) n t k j
+sum_orders {cs} {n} {t} {k} {j} i c s l e = record {
   full = length-set cs i c ∙ s.full;
   cars = s.cars ∙ sum_same (λ k. (car_at cs k).move_count) (λ k. (car_at (set cs i c) k).move_count) n
       (λ k m. ⊎_elim (λ (q : k ≡ i). rw (q, get_or-set_same cs i c no_car l) (sym e)) (λ (q : k ≡ i → ⊥). rw (get_or-set_other cs i k c no_car q) refl) (cases_eq k i));
   words = s.words;
+  time = s.time;
+  room = s.room;
 }
 
 -- a car is loaded
@@ -101,11 +103,12 @@ held_new {n} {cs} {count} {j} c h inside f = record {
       (cases_eq n count);
   fresh = λ m. h.fresh (omega arith);
   calm = h.calm;
+  known = h.known;
 }
 
-sum_new : {cs : List Car} {n t : ℕ} {j : List ℕ} (c : Car) → Summed cs n t j → n < length cs → c.move_count ≡ 0 → Summed (set cs n c) (n + 1) t j
+sum_new : {cs : List Car} {n t k : ℕ} {j : List ℕ} (c : Car) → Summed cs n t k j → n < length cs → c.move_count ≡ 0 → Summed (set cs n c) (n + 1) t k j
 unfolding sum_to
-sum_new {cs} {n} {t} {j} c s l e = record {
+sum_new {cs} {n} {t} {k} {j} c s l e = record {
   full = length-set cs n c ∙ s.full;
   cars = rw (add-one n, get_or-set_same cs n c no_car l)
       (s.cars ∙ omega (
@@ -115,6 +118,8 @@ sum_new {cs} {n} {t} {j} c s l e = record {
             (λ k m. rw (get_or-set_other cs n k c no_car (λ (q : k ≡ n). omega (arith, q))) refl),
       ));
   words = s.words;
+  time = s.time;
+  room = s.room;
 }
 
 send_sound : (stop : ℕ) (reposition : Bool) (p : ElevatorPhase) (d : DoorState) (o : Bool) → Sound p d o → Orders.can_go p ≡ true
@@ -183,18 +188,19 @@ module _ (w : World) (c : Call) (j : List ℕ) (h : Sums w j) (used : ℕ) where
       (λ q e. quiet (accepted used 0 v c.log) t (k q e) e)
 
   module _ (dt : Float) where
-    ticks : Unbroken w → eqb (kind_of (head_word c)) 12 ≡ true → length (tick_words w dt) ≤ length c.log → Gives w c j (ticked w c.log used dt)
-    ticks u t room e =
+    ticks : Unbroken w → eqb (kind_of (head_word c)) 12 ≡ true → w.ticks < 2 ^ 28 → length (tick_words w dt) ≤ length c.log
+        → Gives w c j (ticked w c.log used dt)
+    ticks u t early room e =
         let it : is_tick w c ≡ true = rw e t in
         let words : told w c ≡ tick_words w dt = rw (it, e) (wrote (tick_words w dt) c.log room) in
         kept w c j (tick_words w dt) (ticked w c.log used dt) words
-        (tick_sums w dt j u.few u.low h, λ n k p. (tick_ticks n w dt j h.full k).held) (λ _ n k. (tick_ticks n w dt j h.full k).stands) e
+        (tick_sums w dt j u.few u.low early h, λ n k p. (tick_ticks n w dt j h.full k).held) (λ _ n k. (tick_ticks n w dt j h.full k).stands) e
 
     tick_kept : Unbroken w → eqb (kind_of (head_word c)) 12 ≡ true → Gives w c j (tick_once w c.log used dt)
     unfolding tick_once WordsFit room_of
     tick_kept u t =
         unless_has (Gives w c j) (checks_of_tick w c.log) (refused w c.log) (ticked w c.log used dt) (λ r q. refuses r)
-        (λ q. ticks u t (omega (arith, words_fit w dt, ltb-false (length c.log) (room_of w) q.1.1.0)))
+        (λ q. ticks u t (leb-false (2 ^ 28) w.ticks q.1.0) (omega (arith, words_fit w dt, ltb-false (length c.log) (room_of w) q.1.1.0)))
 
   car_kept : (number : ℕ) (plan : CarPlan) → eqb (kind_of (head_word c)) 12 ≡ false
       → Gives w c j (changed w c.log used (load_car w number plan))

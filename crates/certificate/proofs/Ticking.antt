@@ -2,9 +2,10 @@
 use mathlib.Core.Path.{◌≡◌, refl, ap, ◌∙◌}
 use mathlib.Core.Bool.{Bool, true, false}
 use mathlib.Core.List.{List, [], ◌∷◌, ◌++◌, append_assoc}
-use Prim.Native.Nat.{ℕ, zero, suc, ◌+◌, ◌≤◌, min}
+use Prim.Native.Nat.{ℕ, zero, suc, ◌+◌, ◌*◌, ◌^◌, ◌<◌, ◌≤◌, min}
+use native.Mathlib.Nat.{mul-le-mul}
 use native.Mathlib.Omega.{arith}
-use lib.ListN.{length}
+use lib.ListN.{length, length-append}
 use lib.Ieee.{Float}
 use Rattle.door.specs.Door.{is_closed}
 use Rattle.world.specs.World.{car_at}
@@ -24,9 +25,10 @@ use Rattle.world.specs.declared.Calls.{Calls}
 use Rattle.hall_calls.specs.Clearing.{clears, clear_word, clear_matching_words, opened_of, clear_to, clear_words_to}
 use Rattle.tick.specs.Tick.{tick_world, tick_words}
 use Rattle.tick.specs.Counters.{moves_in, sum_to, count_of, Low, Counts, NothingWraps}
+use Rattle.tick.specs.Room.{room_of, WordsFit}
 use Rattle.laws.proofs.Choices.{both}
 use Rattle.tick.proofs.Turns.{moves_append}
-use Rattle.tick.proofs.Proved.{moved_count, nothing_wraps}
+use Rattle.tick.proofs.Proved.{moved_count, words_fit, nothing_wraps}
 use Rattle.certificate.specs.Certificate.{position_of}
 use Rattle.certificate.proofs.Watch.{Told, told_none, told_join, told_tick, told_dull}
 use Rattle.certificate.proofs.Turns.{move_good, move_rests, move_silent, door_good, door_silent, door_stands}
@@ -62,8 +64,8 @@ module _ (i : ℕ) (o : Bool) where
   match_told None n h = told_none i o
   match_told (Some j) n h =
       told_join
-      (both (Told i o o) (clears h.up j.stop j.lamps.going_up) (told_dull i o 9 n j.stop (bit false) refl refl refl) (told_none i o))
-      (both (Told i o o) (clears h.down j.stop j.lamps.going_down) (told_dull i o 9 n j.stop (bit true) refl refl refl) (told_none i o))
+      (both (Told i o o) (clears h.up j.stop j.lamps.going_up) (told_dull i o 9 n j.stop (bit false) refl refl refl refl) (told_none i o))
+      (both (Told i o o) (clears h.down j.stop j.lamps.going_down) (told_dull i o 9 n j.stop (bit true) refl refl refl refl) (told_none i o))
 
   calls_told : (os : List (Option JustOpened)) (h : Calls) (n : ℕ) → Told i o o (clear_words_to os h n)
   unfolding clear_words_to
@@ -120,17 +122,31 @@ tick_ticks n w dt log full h = record {
     d : Ran Stands n v (begun ++ (moved w dt).words) (doored v)
     d = doored_ran n v (begun ++ (moved w dt).words) (moved_full w dt ∙ full) (rw (moved_count w dt) m.held)
 
--- its moves are counted
+-- ---- its moves and words are counted
+
 all_cars : (n : ℕ) → n ≤ 16 → min n 16 ≡ n
 all_cars n h = omega arith
 
-pub tick_sums : (w : World) (dt : Float) (log : List ℕ) → w.cars.count ≤ 16 → Low w → Summed w.cars.items w.cars.count w.total_moves log
-    → Summed (tick_world w dt).cars.items (tick_world w dt).cars.count (tick_world w dt).total_moves (log ++ tick_words w dt)
+-- the room for 16 cars and 64 stops is enough
+pub most_room : (cars stops : ℕ) → cars ≤ 16 → stops ≤ 64 → cars * (stops + 14) + 1 ≤ 1249
+most_room cars stops c s =
+    let room : cars * (stops + 14) ≤ 16 * 78 = mul-le-mul {m₂ = 78} c (omega arith) in
+    omega arith
+
+words_few : (w : World) (dt : Float) → length (tick_words w dt) ≤ 1249
+unfolding WordsFit room_of
+words_few w dt = omega (arith, words_fit w dt, most_room (min w.cars.count 16) (min w.stops.count 64) (omega arith) (omega arith))
+
+pub tick_sums : (w : World) (dt : Float) (log : List ℕ) → w.cars.count ≤ 16 → Low w → w.ticks < 2 ^ 28
+    → Summed w.cars.items w.cars.count w.total_moves w.ticks log
+    → Summed (tick_world w dt).cars.items (tick_world w dt).cars.count (tick_world w dt).total_moves (tick_world w dt).ticks (log ++ tick_words w dt)
 unfolding NothingWraps
-tick_sums w dt log few low s = record {
+tick_sums w dt log few low early s = record {
   full = tick_full w dt ∙ s.full;
   cars = rw (tick_count w dt) (k.total ∙ omega (arith, s.cars, sums));
   words = k.total ∙ omega (arith, s.words, moves_append log (tick_words w dt));
+  time = omega (arith, k.ticks);
+  room = omega (arith, k.ticks, s.room, words_few w dt, length-append log (tick_words w dt));
 }
   where
     k : Counts w dt

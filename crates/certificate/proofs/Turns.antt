@@ -65,18 +65,18 @@ still i o c f = record { end = o; told = told_none i o; fit = f }
 lamps_told : (n : ℕ) (o : Bool) (i : ℕ) (was lamps : Lamps) → Told n o o (update_indicators i was lamps)
 lamps_told n o i was lamps =
     both (Told n o o) (beq was.going_up lamps.going_up && beq was.going_down lamps.going_down) (told_none n o)
-    (told_dull n o 5 i 0 (2 * bit lamps.going_up + bit lamps.going_down) refl refl refl)
+    (told_dull n o 5 i 0 (2 * bit lamps.going_up + bit lamps.going_down) refl refl refl refl)
 
 -- ---- movement
 
 -- no word of car i but those of its door says anything of car n, whose door is open by the log or not
 abbrev Bears : ℕ → Bool → ℕ → Type 0
-Bears n o i = (k s v : ℕ) → eqb k 6 ≡ false → eqb k 7 ≡ false → Told n o o (word k i s v ∷ [])
+Bears n o i = (k s v : ℕ) → leb 11 k ≡ false → eqb k 6 ≡ false → eqb k 7 ≡ false → Told n o o (word k i s v ∷ [])
 
 passing_told : {n : ℕ} {o : Bool} (i : ℕ) → Bears n o i → (up : Bool) (ss : List ℕ) → Told n o o (passing_words i up ss)
 unfolding passing_words
 passing_told {n} {o} i b up [] = told_none n o
-passing_told {n} {o} i b up (s ∷ ss) = told_join (b 1 s (bit up) refl refl) (passing_told i b up ss)
+passing_told {n} {o} i b up (s ∷ ss) = told_join (b 1 s (bit up) refl refl refl) (passing_told i b up ss)
 
 -- the words of car i's turn, where those of a trip say nothing of car n
 move_told : (n : ℕ) (o : Bool) (w : World) (i : ℕ) → (is_trip (trip_of (car_at w.cars.items i)) ≡ true → Bears n o i) → (dt : Float)
@@ -85,12 +85,12 @@ move_told n o w i b =
     let c : Car = car_at w.cars.items i in
     move_cases (λ s. Told n o o s.words) w i (told_none n o)
     (λ e trip kind r. passing_told i (b e) (moving_up kind c.motion.position r.position) _)
-    (λ e s kind r lamps. told_join (b e 2 s 0 refl refl) (lamps_told n o i c.lamps lamps))
-    (λ e s kind r lamps. told_join (b e 3 s 0 refl refl) (told_join (told_dull n o 4 i s 0 refl refl refl) (lamps_told n o i c.lamps both_lit)))
+    (λ e s kind r lamps. told_join (b e 2 s 0 refl refl refl) (lamps_told n o i c.lamps lamps))
+    (λ e s kind r lamps. told_join (b e 3 s 0 refl refl refl) (told_join (told_dull n o 4 i s 0 refl refl refl refl) (lamps_told n o i c.lamps both_lit)))
 
 -- they say nothing of another car
 pub move_silent : (dt : Float) (w : World) (i n : ℕ) → i < 16 → (n ≡ i → ⊥) → Silent n (move_of dt w i).words
-move_silent dt w i n low other o = move_told n o w i (λ e k s v six seven. told_other n i low other k s v o) dt
+move_silent dt w i n low other o = move_told n o w i (λ e k s v l six seven. told_other n i low other k s v l o) dt
 
 -- a car that makes a trip has a closed door, by the log too
 abbrev Shut : DoorState → Bool → Trip → Type 0
@@ -117,7 +117,7 @@ module _ (w : World) (i : ℕ) (o : Bool) (low : i < 16) (f : Fit (car_at w.cars
 
   -- its own moves stand where its door is closed
   own_bears : is_trip (trip_of c) ≡ true → Bears i o i
-  own_bears e k s v six seven = told_word i low k s v (λ _. (shut c o f e).1) (rw (six, seven))
+  own_bears e k s v l six seven = told_word i low k s v l (λ _. (shut c o f e).1) (rw (six, seven))
 
   pub move_good : (dt : Float) → Good i o (move_of dt w i).car (move_of dt w i).words
   move_good dt = record {
@@ -142,7 +142,7 @@ commands_sound c at traversing o = commands_keep (λ p d. Sound p d o) (λ a b. 
 
 applied_told : (n : ℕ) (o : Bool) (i : ℕ) (q : DoorCommand) (t : Option Doorway) → Told n o o (applied_words i q t)
 applied_told n o i q None = told_none n o
-applied_told n o i q (Some d) = told_dull n o 10 i (code_of q) (ticks_of q) refl refl refl
+applied_told n o i q (Some d) = told_dull n o 10 i (code_of q) (ticks_of q) refl refl refl refl
 
 words_told : (n : ℕ) (o : Bool) (c : Car) (at traversing : Bool) (i m : ℕ) → Told n o o (work_words_to c at traversing i m)
 unfolding work_words_to
@@ -155,7 +155,7 @@ words_told n o c at traversing i (suc m) =
 
 departed_told : (n : ℕ) (o : Bool) (s : Option ℕ) (i : ℕ) → Told n o o (departed_from s i)
 departed_told n o None i = told_none n o
-departed_told n o (Some s) i = told_dull n o 8 i s 0 refl refl refl
+departed_told n o (Some s) i = told_dull n o 8 i s 0 refl refl refl refl
 
 -- the words of a car whose door has closed, by the first
 closed_told : {n : ℕ} {o o' : Bool} (i : ℕ) (c : Car) (next : Option ℕ) → Told n o o' (word 7 i 0 0 ∷ []) → Told n o o' (finished_closing next i c).words
@@ -170,10 +170,10 @@ module _ (i : ℕ) (low : i < 16) (c : Car) (tame : is_manual c.service_mode ≡
   rests_good o p d s = record { end = o; told = told_none i o; fit = record { sound = s; tame = tame } }
 
   opened_good : (o : Bool) (od cd : ℕ) → Turns o (finished_opening i (rested c c.phase (Open od cd)))
-  opened_good o od cd = record { end = true; told = told_word i low 6 0 0 (λ h. no h) refl; fit = record { sound = loading; tame = tame } }
+  opened_good o od cd = record { end = true; told = told_word i low 6 0 0 refl (λ h. no h) refl; fit = record { sound = loading; tame = tame } }
 
   closed_good : (o : Bool) (p : ElevatorPhase) (next : Option ℕ) → Turns o (finished_closing next i (rested c p Closed))
-  closed_good o p next = record { end = false; told = closed_told i (rested c p Closed) next (told_word i low 7 0 0 (λ h. no h) refl); fit = fit next }
+  closed_good o p next = record { end = false; told = closed_told i (rested c p Closed) next (told_word i low 7 0 0 refl (λ h. no h) refl); fit = fit next }
     where
       fit : (next : Option ℕ) → Fit (finished_closing next i (rested c p Closed)).car false
       fit None = record { sound = stopped; tame = tame }
@@ -225,8 +225,8 @@ turn_silent i n low other c at traversing next o =
     let none : (d : DoorState) → Told n o o [] = λ d. told_none n o in
     both Says c.enabled
     (told_join (words_told n o c at traversing i (min c.door_command_queue.count 8))
-    (door_cases Says i k next none (λ d. told_other n i low other 6 0 0 o) none (λ d. closed_told i (rested k k.phase d) None (told_other n i low other 7 0 0 o))
-    (λ s d e. closed_told i (rested k k.phase d) (Some s) (told_other n i low other 7 0 0 o))))
+    (door_cases Says i k next none (λ d. told_other n i low other 6 0 0 refl o) none (λ d. closed_told i (rested k k.phase d) None (told_other n i low other 7 0 0 refl o))
+    (λ s d e. closed_told i (rested k k.phase d) (Some s) (told_other n i low other 7 0 0 refl o))))
     (told_none n o)
 
 pub door_silent : (w : World) (i n : ℕ) → i < 16 → (n ≡ i → ⊥) → Silent n (door_of w i).words

@@ -1,3 +1,4 @@
 pub mod Certificate
 pub mod Manual
 pub mod Examples
+pub mod Joined

@@ -1,19 +1,22 @@
 -- What the study prints is of record calls as the certificate has them. Assumes nothing.
 use mathlib.Core.Path.{◌≡◌, refl, sym, ap, ◌∙◌}
-use mathlib.Core.Bool.{Bool, true, false, ◌&&◌, cond}
+use mathlib.Core.Bool.{Bool, true, false, cond}
 use mathlib.Core.List.{List, [], ◌∷◌, ◌++◌, append-nil, append_assoc}
 use Prim.Native.Nat.{ℕ, ◌^◌, ◌<◌}
+use native.Mathlib.Omega.{arith}
 use lib.Dec.{eqb}
 use lib.ListN.{length, take}
 use Rattle.world.specs.World.{empty_world}
 use Rattle.world.specs.declared.World.{World}
 use Rattle.layout.specs.Layout.{kind_of}
 use Rattle.record.specs.Record.{Outcome, record_of, is_accepted, written_of}
-use Rattle.conditions.specs.Conditions.{Kept}
 use Rattle.record.specs.Calls.{Call, outcome, next, head_word, world_after}
 use Rattle.record.specs.Record.{Answer}
 use Rattle.std.specs.Prelude.{Ok, Err}
 use Rattle.certificate.specs.Certificate.{told, joined}
+use Rattle.certificate.specs.Joined.{JoinedLog}
+use Rattle.certificate.proofs.Proved.{joined_log}
+use Rattle.certificate.proofs.Computed.{examples}
 use Rattle.laws.specs.Counting.{how_many}
 use Rattle.laws.proofs.Bools.{no}
 use Rattle.report.specs.Report.{no_counts, counts_of, any_unknown, count_more, counted_report, report_of}
@@ -73,13 +76,18 @@ none_counted : count_more no_counts [] ≡ no_counts
 unfolding count_more counts_of how_many any_unknown plus
 none_counted = refl
 
+-- no joined log comes near 2 to the 64 words
+short : (calls : List Call) → length (joined empty_world calls) < 2 ^ 64
+unfolding JoinedLog
+short calls = omega (arith, (joined_log empty_world examples.empty calls).size)
+
 pub certified : Certified
 unfolding Certified study_text report_of ending
-certified tape a l s =
+certified tape a l =
     let m = made_of tape in
     ap (λ (c : Counts). said empty_world c m.calls m.left) (sym none_counted)
     ∙ said_joined m.calls empty_world [] m.left a
-    ∙ ap (λ (t : List ℕ). word_lines (joined empty_world m.calls) ++ t) (at_end_lem (world_after empty_world m.calls) (joined empty_world m.calls) m.left l s)
+    ∙ ap (λ (t : List ℕ). word_lines (joined empty_world m.calls) ++ t) (at_end_lem (world_after empty_world m.calls) (joined empty_world m.calls) m.left l (short m.calls))
   where
     ends : (v : World) (c : Counts) → ending v c 0 ≡ last_line (counted_report v c)
     ends v c = refl

@@ -1,5 +1,6 @@
--- What the study prints is of record calls as the certificate has them: the words of the joined log, and a report that counts them.
-use Rattle.std.specs.Prelude.{◌≡◌, true, List, [], ◌∷◌, ◌++◌, ℕ, ◌^◌, ◌<◌, length}
+-- What the study prints is of record calls as the certificate has them: the words of the joined log, and a report that
+-- counts them.
+use Rattle.std.specs.Prelude.{◌≡◌, true, List, [], ◌∷◌, ◌++◌, ℕ}
 use Rattle.world.specs.World.{empty_world}
 use Rattle.world.specs.declared.World.{World}
 use Rattle.record.specs.Record.{is_accepted}
@@ -15,7 +16,10 @@ unfoldable pub AllAccepted : World → List Call → Type 0
 AllAccepted w [] = Unit {0}
 AllAccepted w (c ∷ cs) = (is_accepted (outcome w c).answer ≡ true) × AllAccepted (next w c) cs
 
--- "prints each log word ..., then the report line. .. That line counts the words of all its ticks": where nothing is refused and no byte is left, the lines of the joined log and the report of its words
+-- "prints each log word ..., then the report line. .. That line counts the words of all its ticks": where nothing is refused
+-- and no byte is left, the lines of the joined log and the report of its words
 unfoldable pub Certified : Type 0
-Certified = (tape : List ℕ) → AllAccepted empty_world (made_of tape).calls → (made_of tape).left ≡ [] → length (joined empty_world (made_of tape).calls) < 2 ^ 64
-    → study_text tape ≡ word_lines (joined empty_world (made_of tape).calls) ++ last_line (report_of (world_after empty_world (made_of tape).calls) (joined empty_world (made_of tape).calls))
+Certified = (tape : List ℕ) → AllAccepted empty_world (made_of tape).calls → (made_of tape).left ≡ []
+    → study_text tape
+    ≡ word_lines (joined empty_world (made_of tape).calls)
+    ++ last_line (report_of (world_after empty_world (made_of tape).calls) (joined empty_world (made_of tape).calls))

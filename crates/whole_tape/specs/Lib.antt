@@ -2,3 +2,5 @@ pub mod Study
 pub mod WholeTape
 pub mod Certified
 pub mod Example
+pub mod NeverShort
+pub mod PrintedTotals

@@ -4,12 +4,30 @@
 ghost use Rattle.std.specs.Prelude.{◌≡◌, true};
 ghost use Rattle.whole_tape.specs.WholeTape.{Ignored, Longest, InPieces};
 ghost use Rattle.whole_tape.specs.Certified.{Certified};
+ghost use Rattle.whole_tape.specs.NeverShort.{NeverShort};
+ghost use Rattle.whole_tape.specs.PrintedTotals.{PrintedTotals, OneByte};
 ghost use Rattle.whole_tape.specs.Example.{PaperTape, PaperCalls};
 
 // Carries the claims.
 #[tactic(auto, using(crate::proofs::Ignoring::ignored, crate::proofs::Ignoring::longest, crate::proofs::Joining::all_rounds, crate::proofs::Joining::all_over, crate::proofs::Ending::gets_on_lem, crate::proofs::Ending::ends_at, crate::proofs::Certifying::certified, crate::proofs::Computed::paper_tape_lem, crate::proofs::Computed::paper_calls))]
 pub fn whole_tape() -> bool
     ensures { (result ≡ true) × Ignored × Longest × InPieces × Certified × PaperTape × PaperCalls }
+{
+    true
+}
+
+// Carries the claim that no call of the study is refused 12.
+#[tactic(auto, using(crate::proofs::Fitting::never_short))]
+pub fn never_short() -> bool
+    ensures { (result ≡ true) × NeverShort }
+{
+    true
+}
+
+// Carries the claim about the line that is printed last, and a tape that it does not speak of.
+#[tactic(auto, using(crate::proofs::Printing::printed_totals, crate::proofs::Printing::one_byte))]
+pub fn printed_totals() -> bool
+    ensures { (result ≡ true) × PrintedTotals × OneByte }
 {
     true
 }
