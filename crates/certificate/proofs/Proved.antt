@@ -122,7 +122,8 @@ third claim w e calls q =
 pub third_condition : ThirdCondition
 third_condition = third with_manual
 
--- ---- the joined log of any list. No record puts car 16, which there is none, into Manual mode; so what is held of it is held always.
+-- ---- the joined log of any list: no record puts car 16 into Manual mode, since there is none, so what is held of it is
+-- held always
 
 no_car_16 : (b : Bool) (h : ℕ) → b && eqb (n_of h) 16 ≡ false
 unfolding n_of

@@ -1,4 +1,5 @@
--- The lines of what is printed: a word's line has eight digits, its kind first, and no line has a newline in it. Assumes nothing.
+-- The lines of what is printed: a word's line has eight digits, its kind first, and no line has a newline in it.
+-- Assumes nothing.
 use mathlib.Core.Path.{◌≡◌, refl, ap, ◌∙◌}
 use mathlib.Core.Bool.{Bool, true, false, not}
 use mathlib.Core.List.{List, [], ◌∷◌, ◌++◌, map, append_assoc}

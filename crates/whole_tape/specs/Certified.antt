@@ -16,8 +16,8 @@ unfoldable pub AllAccepted : World → List Call → Type 0
 AllAccepted w [] = Unit {0}
 AllAccepted w (c ∷ cs) = (is_accepted (outcome w c).answer ≡ true) × AllAccepted (next w c) cs
 
--- "prints each log word ..., then the report line. .. That line counts the words of all its ticks": where nothing is refused
--- and no byte is left, the lines of the joined log and the report of its words
+-- "prints each log word ..., then the report line. .. That line counts the words of all its ticks": where nothing is
+-- refused and no byte is left, the lines of the joined log and the report of its words
 unfoldable pub Certified : Type 0
 Certified = (tape : List ℕ) → AllAccepted empty_world (made_of tape).calls → (made_of tape).left ≡ []
     → study_text tape
