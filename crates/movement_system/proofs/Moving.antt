@@ -170,7 +170,7 @@ pub goes_on_lem : (dt : Float) (world w w' : World) (l l' l'' l''' : Log) (i : �
     (sort : Stops) (x m total : ℕ) (distance : Float) → Moves (move_of dt) world l i w l' → Looked dt w i trip kind r lamps → sort ≡ world.stops
     → ToldBy w i trip kind r lamps sort l' l'' x
     → m ≡ plus (car_at w.cars.items i).move_count x → total ≡ plus w.total_moves x
-    → distance ≡ distance_by trip kind w.reposition_distance (car_at w.cars.items i).motion.position r.motion.position
+    → distance ≡ distance_by trip kind w.reposition_distance (car_at w.cars.items i).motion r.motion
     → r.arrived ≡ false → w' ≡ after w (twice w.cars.items i r.motion m) total distance → l''' ≡ l''
     → Moves (move_of dt) world l (i + 1) w' l'''
 goes_on_lem dt world w w' l l' l'' l''' i trip kind r lamps sort x m total distance k look es told em eo ed h ew el =
@@ -187,7 +187,7 @@ pub comes_in : (dt : Float) (world w w' : World) (l l' l'' l''' : Log) (i : ℕ)
     (sort : Stops) (x m total : ℕ) (distance : Float) (c : Car) → Moves (move_of dt) world l i w l' → Looked dt w i trip kind r lamps
     → ToldBy w i trip kind r lamps sort l' l'' x
     → m ≡ plus (car_at w.cars.items i).move_count x → total ≡ plus w.total_moves x
-    → distance ≡ distance_by trip kind w.reposition_distance (car_at w.cars.items i).motion.position r.motion.position
+    → distance ≡ distance_by trip kind w.reposition_distance (car_at w.cars.items i).motion r.motion
     → r.arrived ≡ true → c ≡ come trip (car_at (twice w.cars.items i r.motion m) i) lamps w.ticks
     → w' ≡ after w (set (twice w.cars.items i r.motion m) i c) total distance → l''' ≡ l''
     → Moves (move_of dt) world l (i + 1) w' l'''

@@ -20,19 +20,19 @@ use Rattle.movement_system.specs.Passing.{passed, passing_words}
 -- ---- the turn of car i of world w: by its trip (run's first tests), its line's kind and the motion m of its landing
 
 -- the stops passed on the way from its old place, of the sort of the first n
-abbrev pub passed_by : Trip → LineKind → List Float → ℕ → Float → Motion → List ℕ
-passed_by trip kind stops n old m = passed (swept trip kind old m) stops (sorted_stops stops n) (goal trip)
+abbrev pub passed_by : Trip → LineKind → List Float → ℕ → Motion → Motion → List ℕ
+passed_by trip kind stops n old new = passed (swept trip kind old new) stops (sorted_stops stops n) (goal trip)
 
 -- run, `if !result.arrived`, and tick_manual: the stops passed are the moves
 abbrev pub passes : World → ℕ → Trip → LineKind → Motion → Step
 passes w i trip kind m =
     let c = car_at w.cars.items i in
-    let ss = passed_by trip kind w.stops.items (min w.stops.count 64) c.motion.position m in
+    let ss = passed_by trip kind w.stops.items (min w.stops.count 64) c.motion m in
     record {
       car = with_moved c m (length ss);
       words = passing_words i (moving_up kind c.motion.position m.position) ss;
       total = plus w.total_moves (length ss);
-      distance = distance_by trip kind w.reposition_distance c.motion.position m.position;
+      distance = distance_by trip kind w.reposition_distance c.motion m;
       opened = not_opened;
     }
 
@@ -44,7 +44,7 @@ arrives w i trip kind m lamps =
       car = come trip (with_moved c m 1) lamps w.ticks;
       words = coming_words trip i c.lamps lamps;
       total = plus w.total_moves 1;
-      distance = distance_by trip kind w.reposition_distance c.motion.position m.position;
+      distance = distance_by trip kind w.reposition_distance c.motion m;
       opened = not_opened;
     }
 

@@ -23,10 +23,10 @@ words_by trip i kind stops n c r lamps =
     cond
     (comes trip r.arrived)
     (coming_words trip i c.lamps lamps)
-    (passing_words i (moving_up kind c.motion.position r.motion.position) (passed_by trip kind stops n c.motion.position r.motion))
+    (passing_words i (moving_up kind c.motion.position r.motion.position) (passed_by trip kind stops n c.motion r.motion))
 
 abbrev pub moves_by : Trip → LineKind → List Float → ℕ → Car → Landed → ℕ
-moves_by trip kind stops n c r = cond (comes trip r.arrived) 1 (length (passed_by trip kind stops n c.motion.position r.motion))
+moves_by trip kind stops n c r = cond (comes trip r.arrived) 1 (length (passed_by trip kind stops n c.motion r.motion))
 
 -- words told by code, and the moves that they are: n, as it answers
 pub record Tells (words : List ℕ) (moves : ℕ) (l : Log) (l' : Log) (n : ℕ) : Type 0 where

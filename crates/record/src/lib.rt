@@ -107,11 +107,11 @@ pub fn record(world: World, words: &[u32], log: &mut [u32]) -> Recorded
                 car.lamps
             };
             let moves = tell(&mut log, number, trip, kind, car, landed, lamps, &sort);
-            w.cars.items[i].motion = landed.motion;
+            let new = landed.motion;
+            w.cars.items[i].motion = new;
             w.cars.items[i].move_count = car.move_count.wrapping_add(moves);
             w.total_moves = w.total_moves.wrapping_add(moves);
-            let old = car.motion.position;
-            w.reposition_distance = distance_by(trip, kind, w.reposition_distance, old, landed.motion);
+            w.reposition_distance = distance_by(trip, kind, w.reposition_distance, car.motion, new);
             if landed.arrived {
                 w.cars.items[i] = come(w.cars.items[i], trip, lamps, w.ticks);
             }

@@ -81,8 +81,8 @@ module _ (stops : List Float) (n : ℕ) (target : Option ℕ) where
       cases Fits (lt new old && le Float.zero velocity)
       (λ e. seam_fits old circumference new (and_left (lt new old) (le Float.zero velocity) e)) (λ e. ranges_fit old new)
 
-pub passed_fits : (trip : Trip) (kind : LineKind) (stops : List Float) (n : ℕ) (old : Float) (m : Motion) → length (passed_by trip kind stops n old m) ≤ n
-passed_fits Rests kind stops n old m = span_fits stops n None kind old m.position
-passed_fits Drives kind stops n old m = manual_fits stops n None kind old m.position m.velocity
-passed_fits (GoesTo s) kind stops n old m = span_fits stops n (Some s) kind old m.position
-passed_fits (Repositions s) kind stops n old m = span_fits stops n (Some s) kind old m.position
+pub passed_fits : (trip : Trip) (kind : LineKind) (stops : List Float) (n : ℕ) (old new : Motion) → length (passed_by trip kind stops n old new) ≤ n
+passed_fits Rests kind stops n old new = span_fits stops n None kind old.position new.position
+passed_fits Drives kind stops n old new = manual_fits stops n None kind old.position new.position new.velocity
+passed_fits (GoesTo s) kind stops n old new = span_fits stops n (Some s) kind old.position new.position
+passed_fits (Repositions s) kind stops n old new = span_fits stops n (Some s) kind old.position new.position

@@ -130,10 +130,10 @@ module _ (w : World) (i : ℕ) where
       up = moving_up kind c.motion.position m.position
 
       ss : List ℕ
-      ss = passed_by trip kind w.stops.items (min w.stops.count 64) c.motion.position m
+      ss = passed_by trip kind w.stops.items (min w.stops.count 64) c.motion m
 
       fits : length ss ≤ min w.stops.count 64
-      fits = passed_fits trip kind w.stops.items (min w.stops.count 64) c.motion.position m
+      fits = passed_fits trip kind w.stops.items (min w.stops.count 64) c.motion m
 
   -- a turn of one move
   one_fair : (s : Step) → s.opened ≡ not_opened → length s.words ≤ 3 → moves_in s.words ≡ 1 → s.car.move_count ≡ plus c.move_count 1
