@@ -68,7 +68,8 @@ behind (Some leader) m wrapped velocity headway circumference =
 -- tick_manual, from `raw_new_pos` on
 abbrev pub driven_by : LineKind → Option Float → Motion → Float → Float → Landed
 driven_by Linear ahead m raw velocity = land m (moved_to raw velocity)
-driven_by (Loop circumference headway) ahead m raw velocity = behind ahead m (wrap_position raw circumference) velocity headway circumference
+driven_by (Loop circumference headway) ahead m raw velocity =
+    behind ahead m (wrap_position raw circumference) velocity headway circumference
 
 -- tick_manual: position and velocity; no Manual car arrives
 abbrev pub driven : LineKind → Option Float → Motion → Float → Float → Landed
