@@ -5,10 +5,11 @@ use Rattle.std.specs.Float.Ieee.{sub, mul, lt}
 use Rattle.float.specs.Float as Float
 use Rattle.float.specs.Float.{epsilon, abs}
 use Rattle.motion.specs.Cyclic.{wrap_position}
-use Rattle.motion.specs.Movement.{tick_movement, tick_movement_cyclic, headway_clamp_target}
+use Rattle.motion.specs.Movement.{moved_to, tick_movement, tick_movement_cyclic, headway_clamp_target}
 use Rattle.velocity.specs.Velocity.{fma, manual_velocity}
 use Rattle.motion.specs.declared.movement.MovementResult.{MovementResult}
 use Rattle.world.specs.World.{stop_at}
+use Rattle.world.specs.With.{placed}
 use Rattle.world.specs.declared.Car.{Car}
 use Rattle.world.specs.declared.Table.{Table}
 use Rattle.world.specs.declared.Motion.{Motion}
@@ -19,6 +20,7 @@ use Rattle.std.specs.declared.option.Option.TheVariants.{None, Some}
 use Rattle.leader.specs.Leader.{loop_leader_pos}
 use Rattle.steps.specs.Steps.{is_inspection}
 use Rattle.trips.specs.declared.Trip.{Trip}
+use Rattle.landing.specs.declared.Landed.{Landed}
 use Rattle.trips.specs.declared.Trip.TheVariants.{Rests, Drives, GoesTo, Repositions}
 
 -- "On a loop the leader is the other car of the line": loop_leader_pos, on positions already updated
@@ -35,50 +37,49 @@ abbrev pub effective_target : Option Float → Float → Float → Float → Flo
 effective_target None pos target headway circumference = target
 effective_target (Some leader) pos target headway circumference = headway_clamp_target pos leader target headway circumference
 
+-- a car's motion record where a formula has brought it: its position and velocity are set
+abbrev pub land : Motion → MovementResult → Landed
+land m r = record { motion = placed m r.position r.velocity; arrived = r.arrived }
+
 -- run, `result`
-abbrev pub result_by : LineKind → Option Float → Motion → Float → Float → Float → MovementResult
-result_by Linear ahead m speed target dt = tick_movement m.position m.velocity target speed m.acceleration m.deceleration dt
+abbrev pub result_by : LineKind → Option Float → Motion → Float → Float → Float → Landed
+result_by Linear ahead m speed target dt =
+    land m (tick_movement m.position m.velocity target speed m.acceleration m.deceleration dt)
 result_by (Loop circumference headway) ahead m speed target dt =
-    tick_movement_cyclic m.position m.velocity (effective_target ahead m.position target headway circumference) speed m.acceleration
-    m.deceleration dt circumference
+    let clamped = effective_target ahead m.position target headway circumference in
+    land m (tick_movement_cyclic m.position m.velocity clamped speed m.acceleration m.deceleration dt circumference)
 
 -- manual_target_velocity.unwrap_or(0.0)
 abbrev pub wanted_speed : Option Float → Float
 wanted_speed None = Float.zero
 wanted_speed (Some v) = v
 
-abbrev pub driven_to : Float → Float → MovementResult
-driven_to position velocity = record { position = position; velocity = velocity; arrived = false }
-
 -- tick_manual, `was_clamped`: velocity 0 where the landing was pulled back
 abbrev pub held_velocity : Float → Float → Float → Float
 held_velocity clamped wrapped velocity = cond (lt epsilon (abs (sub binary64 clamped wrapped))) Float.zero velocity
 
 -- tick_manual, on a loop: the landing behind the leader
-abbrev pub behind : Option Float → Float → Float → Float → Float → Float → MovementResult
-behind None old wrapped velocity headway circumference = driven_to wrapped velocity
-behind (Some leader) old wrapped velocity headway circumference =
-    let clamped = headway_clamp_target old leader wrapped headway circumference in
-    driven_to clamped (held_velocity clamped wrapped velocity)
+abbrev pub behind : Option Float → Motion → Float → Float → Float → Float → Landed
+behind None m wrapped velocity headway circumference = land m (moved_to wrapped velocity)
+behind (Some leader) m wrapped velocity headway circumference =
+    let clamped = headway_clamp_target m.position leader wrapped headway circumference in
+    land m (moved_to clamped (held_velocity clamped wrapped velocity))
 
 -- tick_manual, from `raw_new_pos` on
-abbrev pub driven_by : LineKind → Option Float → Float → Float → Float → MovementResult
-driven_by Linear ahead old raw velocity = driven_to raw velocity
-driven_by (Loop circumference headway) ahead old raw velocity = behind ahead old (wrap_position raw circumference) velocity headway circumference
-
--- tick_manual, `new_vel` before the loop's landing
-abbrev pub manual_speed : Car → Float → Float
-manual_speed c dt =
-    manual_velocity (wanted_speed c.manual_target_velocity) c.motion.velocity c.motion.max_speed c.motion.acceleration
-    c.motion.deceleration dt
+abbrev pub driven_by : LineKind → Option Float → Motion → Float → Float → Landed
+driven_by Linear ahead m raw velocity = land m (moved_to raw velocity)
+driven_by (Loop circumference headway) ahead m raw velocity =
+    behind ahead m (wrap_position raw circumference) velocity headway circumference
 
 -- tick_manual: position and velocity; no Manual car arrives
-abbrev pub driven : LineKind → Option Float → Car → Float → MovementResult
-driven kind leader c dt = driven_by kind leader c.motion.position (fma (manual_speed c dt) dt c.motion.position) (manual_speed c dt)
+abbrev pub driven : LineKind → Option Float → Motion → Float → Float → Landed
+driven kind leader m wanted dt =
+    let velocity = manual_velocity wanted m.velocity m.max_speed m.acceleration m.deceleration dt in
+    driven_by kind leader m (fma velocity dt m.position) velocity
 
 -- a car's landing
-abbrev pub landing : Trip → LineKind → Option Float → Car → List Float → Float → MovementResult
-landing Rests kind ahead c stops dt = driven_to c.motion.position c.motion.velocity
-landing Drives kind ahead c stops dt = driven kind ahead c dt
+abbrev pub landing : Trip → LineKind → Option Float → Car → List Float → Float → Landed
+landing Rests kind ahead c stops dt = record { motion = c.motion; arrived = false }
+landing Drives kind ahead c stops dt = driven kind ahead c.motion (wanted_speed c.manual_target_velocity) dt
 landing (GoesTo s) kind ahead c stops dt = result_by kind ahead c.motion (max_speed_of c) (stop_at stops s) dt
 landing (Repositions s) kind ahead c stops dt = result_by kind ahead c.motion (max_speed_of c) (stop_at stops s) dt

@@ -45,6 +45,27 @@ fn effective_target(
     })
 }
 
+// The car's motion record after a tick, and whether the car has arrived.
+#[derive(Clone, Copy)]
+pub struct Landed {
+    pub motion: Motion,
+    pub arrived: bool,
+}
+
+// The motion record where a formula has brought it.
+fn land(m: Motion, r: MovementResult) -> Landed
+    ensures { result ≡ Landing.land m r }
+{
+    Landed {
+        motion: Motion {
+            position: r.position,
+            velocity: r.velocity,
+            ..m
+        },
+        arrived: r.arrived,
+    }
+}
+
 // run, `result`.
 fn result_by(
     kind: LineKind,
@@ -53,10 +74,10 @@ fn result_by(
     max_speed: f64,
     target: f64,
     dt: f64,
-) -> MovementResult
+) -> Landed
     ensures { result ≡ Landing.result_by kind leader m max_speed target dt }
 {
-    match kind {
+    let r = match kind {
         LineKind::Linear => tick_movement(
             m.position,
             m.velocity,
@@ -79,7 +100,8 @@ fn result_by(
             dt,
             circumference,
         ),
-    }
+    };
+    land(m, r)
 }
 
 // The velocity of a landing that was pulled back to `clamped`.
@@ -96,41 +118,38 @@ fn held_velocity(clamped: f64, wrapped: f64, velocity: f64) -> f64
 // tick_manual on a loop: the landing behind the leader.
 fn behind(
     leader: Option<f64>,
-    old: f64,
+    m: Motion,
     wrapped: f64,
     velocity: f64,
     headway: f64,
     circumference: f64,
-) -> MovementResult
-    ensures { result ≡ Landing.behind leader old wrapped velocity headway circumference }
+) -> Landed
+    ensures { result ≡ Landing.behind leader m wrapped velocity headway circumference }
 {
     match leader {
-        None => moved_to(wrapped, velocity),
+        None => land(m, moved_to(wrapped, velocity)),
         Some(lp) => {
-            let clamped = headway_clamp_target(old, lp, wrapped, headway, circumference);
-            moved_to(clamped, held_velocity(clamped, wrapped, velocity))
+            let clamped = headway_clamp_target(m.position, lp, wrapped, headway, circumference);
+            land(
+                m,
+                moved_to(clamped, held_velocity(clamped, wrapped, velocity)),
+            )
         }
     }
 }
 
 // tick_manual, from `raw_new_pos` on.
-fn driven_by(
-    kind: LineKind,
-    leader: Option<f64>,
-    old: f64,
-    raw: f64,
-    velocity: f64,
-) -> MovementResult
-    ensures { result ≡ Landing.driven_by kind leader old raw velocity }
+fn driven_by(kind: LineKind, leader: Option<f64>, m: Motion, raw: f64, velocity: f64) -> Landed
+    ensures { result ≡ Landing.driven_by kind leader m raw velocity }
 {
     match kind {
-        LineKind::Linear => moved_to(raw, velocity),
+        LineKind::Linear => land(m, moved_to(raw, velocity)),
         LineKind::Loop {
             circumference,
             min_headway,
         } => behind(
             leader,
-            old,
+            m,
             wrap_position(raw, circumference),
             velocity,
             min_headway,
@@ -140,25 +159,18 @@ fn driven_by(
 }
 
 // tick_manual: position and velocity.
-fn driven(kind: LineKind, leader: Option<f64>, car: Car, dt: f64) -> MovementResult
-    ensures { result ≡ Landing.driven kind leader car dt }
+fn driven(kind: LineKind, leader: Option<f64>, m: Motion, wanted: f64, dt: f64) -> Landed
+    ensures { result ≡ Landing.driven kind leader m wanted dt }
 {
-    let m = car.motion;
     let velocity = manual_velocity(
-        car.manual_target_velocity.unwrap_or(0.0),
+        wanted,
         m.velocity,
         m.max_speed,
         m.acceleration,
         m.deceleration,
         dt,
     );
-    driven_by(
-        kind,
-        leader,
-        m.position,
-        fma(velocity, dt, m.position),
-        velocity,
-    )
+    driven_by(kind, leader, m, fma(velocity, dt, m.position), velocity)
 }
 
 // A car's landing, by its trip.
@@ -169,13 +181,19 @@ pub fn landing(
     car: Car,
     stops: &[f64; 64],
     dt: f64,
-) -> MovementResult
+) -> Landed
     ensures { result ≡ Landing.landing trip kind leader car stops.now dt }
 {
     let m = car.motion;
     match trip {
-        Trip::Rests => moved_to(m.position, m.velocity),
-        Trip::Drives => driven(kind, leader, car, dt),
+        Trip::Rests => Landed {
+            motion: m,
+            arrived: false,
+        },
+        Trip::Drives => {
+            let wanted = car.manual_target_velocity.unwrap_or(0.0);
+            driven(kind, leader, m, wanted, dt)
+        }
         Trip::GoesTo(s) | Trip::Repositions(s) => {
             result_by(kind, leader, m, max_speed(car), stop_position(stops, s), dt)
         }

@@ -7,19 +7,19 @@ use Prim.Native.Nat.{ℕ, zero, suc, ◌+◌, min}
 use native.Mathlib.Numerals.{add-one}
 use lib.ListN.{set}
 use lib.Ieee.{Float}
-use Rattle.motion.specs.declared.movement.MovementResult.{MovementResult}
 use Rattle.laws.proofs.Bools.{no}
 use Rattle.world.specs.World.{car_at}
 use Rattle.world.specs.declared.World.{World}
 use Rattle.world.specs.declared.Car.{Car}
 use Rattle.world.specs.declared.LineKind.{LineKind}
+use Rattle.world.specs.declared.Motion.{Motion}
 use Rattle.world.specs.declared.LineKind.TheVariants.{Linear, Loop}
 use Rattle.std.specs.declared.option.Option.{Option}
 use Rattle.std.specs.declared.option.Option.TheVariants.{None, Some}
 use Rattle.log_writes.specs.Told.{Told, Log}
 use Rattle.log_writes.proofs.Telling.{told_also, told_none}
 use Rattle.steps.specs.Steps.{Step, line_of, step_of, stepped, not_opened, run_to, run_cars}
-use Rattle.world.specs.With.{placed}
+use Rattle.world.specs.With.{with_motion}
 use Rattle.laws.specs.Numbers.{plus}
 use Rattle.steps.specs.declared.JustOpened.{JustOpened}
 use Rattle.steps.proofs.Cars.{kept, stepped_same}
@@ -29,6 +29,7 @@ use Rattle.world.specs.declared.Lamps.{Lamps}
 use Rattle.world.specs.Tables.{Stops}
 use Rattle.trips.specs.Trips.{is_trip, trip_of}
 use Rattle.landing.specs.Landing.{leader_of, landing}
+use Rattle.landing.specs.declared.Landed.{Landed}
 use Rattle.arrival.specs.Arrival.{asks_work, work_of}
 use Rattle.trips.specs.declared.Trip.{Trip}
 use Rattle.trips.specs.declared.Trip.TheVariants.{Rests, Drives, GoesTo, Repositions}
@@ -57,7 +58,7 @@ unfolding move_of
 rests dt w i trip et h = rw (← et, h)
 
 -- of one that moves: the remaining work is looked for where the turn asks for it
-pub moves : (dt : Float) (w : World) (i : ℕ) (trip : Trip) (kind : LineKind) (leader : Option Float) (r : MovementResult) (lamps : Lamps)
+pub moves : (dt : Float) (w : World) (i : ℕ) (trip : Trip) (kind : LineKind) (leader : Option Float) (r : Landed) (lamps : Lamps)
     → trip ≡ trip_of (car_at w.cars.items i) → kind ≡ (line_of w.lines.items (car_at w.cars.items i).line).kind
     → leader ≡ leader_of kind w.cars i (car_at w.cars.items i)
     → r ≡ landing trip kind leader (car_at w.cars.items i) w.stops.items dt
@@ -81,22 +82,17 @@ put_put f g [] i = refl
 put_put f g (x ∷ xs) zero = refl
 put_put f g (x ∷ xs) (suc i) = ap (λ (r : List Car). x ∷ r) (put_put f g xs i)
 
--- one number after the other
-abbrev pub thrice : List Car → ℕ → Float → Float → ℕ → List Car
-thrice cs i p v m =
-    put (λ c. placed c c.motion.position c.motion.velocity m)
-    (put (λ c. placed c c.motion.position v c.move_count) (put (λ c. placed c p c.motion.velocity c.move_count) cs i) i) i
+-- the motion record stored, then the count
+abbrev pub twice : List Car → ℕ → Motion → ℕ → List Car
+twice cs i m n = put (λ c. with_motion c c.motion n) (put (λ c. with_motion c m c.move_count) cs i) i
 
-pub lands : (cs : List Car) (i : ℕ) (p v : Float) (m : ℕ) → thrice cs i p v m ≡ set cs i (placed (car_at cs i) p v m)
-lands cs i p v m =
-    ap (λ (z : List Car). put (λ c. placed c c.motion.position c.motion.velocity m) z i)
-    (put_put (λ c. placed c p c.motion.velocity c.move_count) (λ c. placed c c.motion.position v c.move_count) cs i)
-    ∙ put_put (λ c. placed c p v c.move_count) (λ c. placed c c.motion.position c.motion.velocity m) cs i
+pub lands : (cs : List Car) (i : ℕ) (m : Motion) (n : ℕ) → twice cs i m n ≡ set cs i (with_motion (car_at cs i) m n)
+lands cs i m n = put_put (λ c. with_motion c m c.move_count) (λ c. with_motion c c.motion n) cs i
 
-pub comes_to : (cs : List Car) (i : ℕ) (p v : Float) (m : ℕ) (trip : Trip) (lamps : Lamps) (tick : ℕ)
-    → set (thrice cs i p v m) i (come trip (car_at (thrice cs i p v m) i) lamps tick) ≡ set cs i (come trip (placed (car_at cs i) p v m) lamps tick)
-comes_to cs i p v m trip lamps tick =
-    ap (λ (z : List Car). put (λ c. come trip c lamps tick) z i) (lands cs i p v m) ∙ put_put (λ c. placed c p v m) (λ c. come trip c lamps tick) cs i
+pub comes_to : (cs : List Car) (i : ℕ) (m : Motion) (n : ℕ) (trip : Trip) (lamps : Lamps) (tick : ℕ)
+    → set (twice cs i m n) i (come trip (car_at (twice cs i m n) i) lamps tick) ≡ set cs i (come trip (with_motion (car_at cs i) m n) lamps tick)
+comes_to cs i m n trip lamps tick =
+    ap (λ (z : List Car). put (λ c. come trip c lamps tick) z i) (lands cs i m n) ∙ put_put (λ c. with_motion c m n) (λ c. come trip c lamps tick) cs i
 
 -- ---- the world that a turn leaves
 
@@ -147,11 +143,11 @@ doored_after dt world k e h = (rw (← k.left) e, rw (← k.left) (told_also k.t
 -- ---- one turn more, as the code makes it
 
 -- a turn that the code has looked at: it moves, and as its definition says
-pub record Looked (dt : Float) (w : World) (i : ℕ) (trip : Trip) (kind : LineKind) (r : MovementResult) (lamps : Lamps) : Type 0 where
-  pub turn : move_of dt w i ≡ cond (comes trip r.arrived) (arrives w i trip kind r lamps) (passes w i trip kind r)
+pub record Looked (dt : Float) (w : World) (i : ℕ) (trip : Trip) (kind : LineKind) (r : Landed) (lamps : Lamps) : Type 0 where
+  pub turn : move_of dt w i ≡ cond (comes trip r.arrived) (arrives w i trip kind r.motion lamps) (passes w i trip kind r.motion)
   pub comes_as : comes trip r.arrived ≡ r.arrived
 
-pub looked : (dt : Float) (w : World) (i : ℕ) (trip : Trip) (kind : LineKind) (leader : Option Float) (r : MovementResult) (lamps : Lamps)
+pub looked : (dt : Float) (w : World) (i : ℕ) (trip : Trip) (kind : LineKind) (leader : Option Float) (r : Landed) (lamps : Lamps)
     → trip ≡ trip_of (car_at w.cars.items i) → is_trip trip ≡ true → kind ≡ (line_of w.lines.items (car_at w.cars.items i).line).kind
     → leader ≡ leader_of kind w.cars i (car_at w.cars.items i)
     → r ≡ landing trip kind leader (car_at w.cars.items i) w.stops.items dt
@@ -164,44 +160,44 @@ looked dt w i trip kind leader r lamps et t ek lead er wk = record {
 }
 
 -- the words that it told by the sort of the stops, and how many moves they are
-abbrev pub ToldBy : World → ℕ → Trip → LineKind → MovementResult → Lamps → Stops → Log → Log → ℕ → Type 0
+abbrev pub ToldBy : World → ℕ → Trip → LineKind → Landed → Lamps → Stops → Log → Log → ℕ → Type 0
 ToldBy w i trip kind r lamps sort l l' x =
     let c = car_at w.cars.items i in
     Tells (words_by trip i kind sort.items (min sort.count 64) c r lamps) (moves_by trip kind sort.items (min sort.count 64) c r) l l' x
 
 -- the car goes on
-pub goes_on_lem : (dt : Float) (world w w' : World) (l l' l'' l''' : Log) (i : ℕ) (trip : Trip) (kind : LineKind) (r : MovementResult) (lamps : Lamps)
+pub goes_on_lem : (dt : Float) (world w w' : World) (l l' l'' l''' : Log) (i : ℕ) (trip : Trip) (kind : LineKind) (r : Landed) (lamps : Lamps)
     (sort : Stops) (x m total : ℕ) (distance : Float) → Moves (move_of dt) world l i w l' → Looked dt w i trip kind r lamps → sort ≡ world.stops
     → ToldBy w i trip kind r lamps sort l' l'' x
     → m ≡ plus (car_at w.cars.items i).move_count x → total ≡ plus w.total_moves x
-    → distance ≡ distance_by trip kind w.reposition_distance (car_at w.cars.items i).motion.position r.position
-    → r.arrived ≡ false → w' ≡ after w (thrice w.cars.items i r.position r.velocity m) total distance → l''' ≡ l''
+    → distance ≡ distance_by trip kind w.reposition_distance (car_at w.cars.items i).motion r.motion
+    → r.arrived ≡ false → w' ≡ after w (twice w.cars.items i r.motion m) total distance → l''' ≡ l''
     → Moves (move_of dt) world l (i + 1) w' l'''
 goes_on_lem dt world w w' l l' l'' l''' i trip kind r lamps sort x m total distance k look es told em eo ed h ew el =
     let f : comes trip r.arrived ≡ false = look.comes_as ∙ h in
-    let e : move_of dt w i ≡ passes w i trip kind r = look.turn ∙ rw f in
+    let e : move_of dt w i ≡ passes w i trip kind r.motion = look.turn ∙ rw f in
     let s : sort ≡ w.stops = es ∙ sym (stops_kept k) in
     let tells = rw (s, f) at told in
-    let left : w' ≡ stepped w i (passes w i trip kind r) =
-    ew ∙ ap (λ (z : List Car). after w z total distance) (lands w.cars.items i r.position r.velocity m) ∙ rw (em, eo, ed, tells.count) in
+    let left : w' ≡ stepped w i (passes w i trip kind r.motion) =
+    ew ∙ ap (λ (z : List Car). after w z total distance) (lands w.cars.items i r.motion m) ∙ rw (em, eo, ed, tells.count) in
     more k e left (rw el tells.told)
 
 -- it comes to its stop
-pub comes_in : (dt : Float) (world w w' : World) (l l' l'' l''' : Log) (i : ℕ) (trip : Trip) (kind : LineKind) (r : MovementResult) (lamps : Lamps)
+pub comes_in : (dt : Float) (world w w' : World) (l l' l'' l''' : Log) (i : ℕ) (trip : Trip) (kind : LineKind) (r : Landed) (lamps : Lamps)
     (sort : Stops) (x m total : ℕ) (distance : Float) (c : Car) → Moves (move_of dt) world l i w l' → Looked dt w i trip kind r lamps
     → ToldBy w i trip kind r lamps sort l' l'' x
     → m ≡ plus (car_at w.cars.items i).move_count x → total ≡ plus w.total_moves x
-    → distance ≡ distance_by trip kind w.reposition_distance (car_at w.cars.items i).motion.position r.position
-    → r.arrived ≡ true → c ≡ come trip (car_at (thrice w.cars.items i r.position r.velocity m) i) lamps w.ticks
-    → w' ≡ after w (set (thrice w.cars.items i r.position r.velocity m) i c) total distance → l''' ≡ l''
+    → distance ≡ distance_by trip kind w.reposition_distance (car_at w.cars.items i).motion r.motion
+    → r.arrived ≡ true → c ≡ come trip (car_at (twice w.cars.items i r.motion m) i) lamps w.ticks
+    → w' ≡ after w (set (twice w.cars.items i r.motion m) i c) total distance → l''' ≡ l''
     → Moves (move_of dt) world l (i + 1) w' l'''
 comes_in dt world w w' l l' l'' l''' i trip kind r lamps sort x m total distance c k look told em eo ed h ec ew el =
     let f : comes trip r.arrived ≡ true = look.comes_as ∙ h in
-    let e : move_of dt w i ≡ arrives w i trip kind r lamps = look.turn ∙ rw f in
+    let e : move_of dt w i ≡ arrives w i trip kind r.motion lamps = look.turn ∙ rw f in
     let tells = rw f at told in
-    let left : w' ≡ stepped w i (arrives w i trip kind r lamps) =
+    let left : w' ≡ stepped w i (arrives w i trip kind r.motion lamps) =
     ew ∙ ap (λ (z : List Car). after w z total distance)
-    (ap (λ (z : Car). set (thrice w.cars.items i r.position r.velocity m) i z) ec ∙ comes_to w.cars.items i r.position r.velocity m trip lamps w.ticks)
+    (ap (λ (z : Car). set (twice w.cars.items i r.motion m) i z) ec ∙ comes_to w.cars.items i r.motion m trip lamps w.ticks)
     ∙ rw (em, eo, ed, tells.count) in
     more k e left (rw el tells.told)
 

@@ -1,6 +1,6 @@
 -- Parts of the code, cited within the library alone, on which the promise of `record` does not rest: what a car tells and its moves (proofs/Moving.antt has that they are the turn's), the order of a world's stops.
 use Rattle.std.specs.Prelude.{◌≡◌, cond, List, ℕ, min, length, Float}
-use Rattle.motion.specs.declared.movement.MovementResult.{MovementResult}
+use Rattle.landing.specs.declared.Landed.{Landed}
 use Rattle.world.specs.declared.Car.{Car}
 use Rattle.world.specs.declared.LineKind.{LineKind}
 use Rattle.log_writes.specs.Told.{Told, Log}
@@ -18,15 +18,15 @@ abbrev pub order_of : Stops → List ℕ
 order_of stops = sorted_stops stops.items (min stops.count 64)
 
 -- a turn's words, and how many moves it is
-abbrev pub words_by : Trip → ℕ → LineKind → List Float → ℕ → Car → MovementResult → Lamps → List ℕ
+abbrev pub words_by : Trip → ℕ → LineKind → List Float → ℕ → Car → Landed → Lamps → List ℕ
 words_by trip i kind stops n c r lamps =
     cond
     (comes trip r.arrived)
     (coming_words trip i c.lamps lamps)
-    (passing_words i (moving_up kind c.motion.position r.position) (passed_by trip kind stops n c.motion.position r))
+    (passing_words i (moving_up kind c.motion.position r.motion.position) (passed_by trip kind stops n c.motion r.motion))
 
-abbrev pub moves_by : Trip → LineKind → List Float → ℕ → Car → MovementResult → ℕ
-moves_by trip kind stops n c r = cond (comes trip r.arrived) 1 (length (passed_by trip kind stops n c.motion.position r))
+abbrev pub moves_by : Trip → LineKind → List Float → ℕ → Car → Landed → ℕ
+moves_by trip kind stops n c r = cond (comes trip r.arrived) 1 (length (passed_by trip kind stops n c.motion r.motion))
 
 -- words told by code, and the moves that they are: n, as it answers
 pub record Tells (words : List ℕ) (moves : ℕ) (l : Log) (l' : Log) (n : ℕ) : Type 0 where

@@ -1,9 +1,9 @@
 -- A car's move by its trip: what it sweeps over, and its words and the car where it comes to its stop.
 use Rattle.std.specs.Prelude.{ℕ, Bool, false, List, [], ◌∷◌, Float}
-use Rattle.motion.specs.declared.movement.MovementResult.{MovementResult}
 use Rattle.door.specs.Door.{request_open}
 use Rattle.world.specs.declared.Car.{Car}
 use Rattle.world.specs.declared.LineKind.{LineKind}
+use Rattle.world.specs.declared.Motion.{Motion}
 use Rattle.world.specs.declared.ElevatorPhase.TheVariants.{Idle, DoorOpening}
 use Rattle.std.specs.declared.option.Option.{Option}
 use Rattle.std.specs.declared.option.Option.TheVariants.{None, Some}
@@ -35,11 +35,11 @@ goal (GoesTo s) = Some s
 goal (Repositions s) = Some s
 
 -- what a tick sweeps over
-abbrev pub swept : Trip → LineKind → Float → MovementResult → Span
-swept Rests kind old r = span_of kind old r.position
-swept Drives kind old r = manual_span kind old r.position r.velocity
-swept (GoesTo s) kind old r = span_of kind old r.position
-swept (Repositions s) kind old r = span_of kind old r.position
+abbrev pub swept : Trip → LineKind → Motion → Motion → Span
+swept Rests kind old new = span_of kind old.position new.position
+swept Drives kind old new = manual_span kind old.position new.position new.velocity
+swept (GoesTo s) kind old new = span_of kind old.position new.position
+swept (Repositions s) kind old new = span_of kind old.position new.position
 
 -- the words of a car that comes to its stop: run, `if result.arrived`
 abbrev pub coming_words : Trip → ℕ → Lamps → Lamps → List ℕ
@@ -58,8 +58,8 @@ come (GoesTo s) c lamps tick =
 come (Repositions s) c lamps tick = with_arrived c Idle c.door None false both_lit (popped c s) (Some (plus tick 240))
 
 -- the reposition distance after a tick: run, `if is_repositioning`
-abbrev pub distance_by : Trip → LineKind → Float → Float → Float → Float
+abbrev pub distance_by : Trip → LineKind → Float → Motion → Motion → Float
 distance_by Rests kind distance old new = distance
 distance_by Drives kind distance old new = distance
 distance_by (GoesTo s) kind distance old new = distance
-distance_by (Repositions s) kind distance old new = distance_after distance (travelled kind old new)
+distance_by (Repositions s) kind distance old new = distance_after distance (travelled kind old.position new.position)

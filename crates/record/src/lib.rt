@@ -100,19 +100,19 @@ pub fn record(world: World, words: &[u32], log: &mut [u32]) -> Recorded
             let number = i as u8;
             let kind = line_at(&w.lines.items, car.line).kind;
             let leader = leader_of(kind, &w.cars, i, car);
-            let result = landing(trip, kind, leader, car, &w.stops.items, dt);
-            let lamps = if asks_work(trip, kind, result.arrived) {
+            let landed = landing(trip, kind, leader, car, &w.stops.items, dt);
+            let lamps = if asks_work(trip, kind, landed.arrived) {
                 work_of(trip, &w.riders, car, &w.stops.items, number)
             } else {
                 car.lamps
             };
-            let moves = tell(&mut log, number, trip, kind, car, result, lamps, &sort);
-            w.cars.items[i].motion.position = result.position;
-            w.cars.items[i].motion.velocity = result.velocity;
+            let moves = tell(&mut log, number, trip, kind, car, landed, lamps, &sort);
+            let new = landed.motion;
+            w.cars.items[i].motion = new;
             w.cars.items[i].move_count = car.move_count.wrapping_add(moves);
             w.total_moves = w.total_moves.wrapping_add(moves);
-            w.reposition_distance = distance_by(trip, kind, w.reposition_distance, car, result);
-            if result.arrived {
+            w.reposition_distance = distance_by(trip, kind, w.reposition_distance, car.motion, new);
+            if landed.arrived {
                 w.cars.items[i] = come(w.cars.items[i], trip, lamps, w.ticks);
             }
         }

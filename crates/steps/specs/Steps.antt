@@ -4,6 +4,7 @@ use Rattle.std.specs.Bool.{beq}
 use Rattle.world.specs.World.{line_at}
 use Rattle.world.specs.declared.World.{World}
 use Rattle.world.specs.declared.Car.{Car}
+use Rattle.world.specs.declared.Motion.{Motion}
 use Rattle.world.specs.declared.Line.{Line}
 use Rattle.world.specs.declared.LineKind.TheVariants.{Linear}
 use Rattle.world.specs.declared.ServiceMode.{ServiceMode}
@@ -15,7 +16,7 @@ use Rattle.log_words.specs.declared.Event.TheVariants.{DirectionIndicatorChanged
 use Rattle.world.specs.declared.Lamps.{Lamps}
 use Rattle.steps.specs.declared.JustOpened.{JustOpened}
 use Rattle.laws.specs.Numbers.{plus}
-use Rattle.world.specs.With.{placed, with_turn}
+use Rattle.world.specs.With.{with_motion, with_turn}
 use Rattle.world.specs.World.{serves_none}
 
 -- a car's line; past the table a linear one without a list, which refusal 0 keeps away
@@ -54,9 +55,9 @@ update_indicators i was lamps =
 
 -- ---- a car with some of its fields changed
 
--- moved: its position and velocity, and so many moves more
-abbrev pub with_moved : Car → Float → Float → ℕ → Car
-with_moved c position velocity moves = placed c position velocity (plus c.move_count moves)
+-- moved: its motion record, and so many moves more
+abbrev pub with_moved : Car → Motion → ℕ → Car
+with_moved c motion moves = with_motion c motion (plus c.move_count moves)
 
 -- ---- a car's turn: the car, its words, the world's totals then, and whether its door has just opened
 

@@ -9,7 +9,7 @@ use lib.Ieee.{Float, binary64, add, sub, lt, le}
 use Rattle.float.specs.Float as Float
 use Rattle.float.specs.Float.{epsilon}
 use Rattle.laws.proofs.Bools.{and_left}
-use Rattle.motion.specs.declared.movement.MovementResult.{MovementResult}
+use Rattle.world.specs.declared.Motion.{Motion}
 use Rattle.world.specs.World.{stop_at}
 use Rattle.world.specs.declared.LineKind.{LineKind}
 use Rattle.world.specs.declared.LineKind.TheVariants.{Linear, Loop}
@@ -81,8 +81,8 @@ module _ (stops : List Float) (n : ℕ) (target : Option ℕ) where
       cases Fits (lt new old && le Float.zero velocity)
       (λ e. seam_fits old circumference new (and_left (lt new old) (le Float.zero velocity) e)) (λ e. ranges_fit old new)
 
-pub passed_fits : (trip : Trip) (kind : LineKind) (stops : List Float) (n : ℕ) (old : Float) (r : MovementResult) → length (passed_by trip kind stops n old r) ≤ n
-passed_fits Rests kind stops n old r = span_fits stops n None kind old r.position
-passed_fits Drives kind stops n old r = manual_fits stops n None kind old r.position r.velocity
-passed_fits (GoesTo s) kind stops n old r = span_fits stops n (Some s) kind old r.position
-passed_fits (Repositions s) kind stops n old r = span_fits stops n (Some s) kind old r.position
+pub passed_fits : (trip : Trip) (kind : LineKind) (stops : List Float) (n : ℕ) (old new : Motion) → length (passed_by trip kind stops n old new) ≤ n
+passed_fits Rests kind stops n old new = span_fits stops n None kind old.position new.position
+passed_fits Drives kind stops n old new = manual_fits stops n None kind old.position new.position new.velocity
+passed_fits (GoesTo s) kind stops n old new = span_fits stops n (Some s) kind old.position new.position
+passed_fits (Repositions s) kind stops n old new = span_fits stops n (Some s) kind old.position new.position

@@ -6,7 +6,7 @@ use Prim.Native.Nat.{ℕ, zero, suc, ◌+◌, ◌*◌, ◌^◌, ◌<◌, ◌≤�
 use native.Mathlib.Omega.{arith}
 use lib.ListN.{length, length-append}
 use lib.Ieee.{Float}
-use Rattle.motion.specs.declared.movement.MovementResult.{MovementResult}
+use Rattle.world.specs.declared.Motion.{Motion}
 use Rattle.world.specs.World.{car_at}
 use Rattle.world.specs.declared.World.{World}
 use Rattle.world.specs.declared.Car.{Car}
@@ -118,8 +118,8 @@ module _ (w : World) (i : ℕ) where
   abbrev Moves : Step → Type 0
   Moves s = Fair (min w.stops.count 64 + 3) 64 w.total_moves c s
 
-  pass_fair : (trip : Trip) (kind : LineKind) (r : MovementResult) → Moves (passes w i trip kind r)
-  pass_fair trip kind r = record {
+  pass_fair : (trip : Trip) (kind : LineKind) (m : Motion) → Moves (passes w i trip kind m)
+  pass_fair trip kind m = record {
     size = omega (arith, fits, passing_size i up ss);
     few = omega (arith, fits, passing_moves i up ss);
     car = λ l. plus_plain c.move_count (length ss) l (omega (arith, fits)) ∙ omega (arith, passing_moves i up ss);
@@ -127,13 +127,13 @@ module _ (w : World) (i : ℕ) where
   }
     where
       up : Bool
-      up = moving_up kind c.motion.position r.position
+      up = moving_up kind c.motion.position m.position
 
       ss : List ℕ
-      ss = passed_by trip kind w.stops.items (min w.stops.count 64) c.motion.position r
+      ss = passed_by trip kind w.stops.items (min w.stops.count 64) c.motion m
 
       fits : length ss ≤ min w.stops.count 64
-      fits = passed_fits trip kind w.stops.items (min w.stops.count 64) c.motion.position r
+      fits = passed_fits trip kind w.stops.items (min w.stops.count 64) c.motion m
 
   -- a turn of one move
   one_fair : (s : Step) → s.opened ≡ not_opened → length s.words ≤ 3 → moves_in s.words ≡ 1 → s.car.move_count ≡ plus c.move_count 1
@@ -145,16 +145,16 @@ module _ (w : World) (i : ℕ) where
     total = λ l. q ∙ plus_plain w.total_moves 1 l (omega arith) ∙ omega arith;
   }
 
-  arrived_fair : (s : ℕ) (kind : LineKind) (r : MovementResult) (lamps : Lamps) → Moves (arrives w i (GoesTo s) kind r lamps)
-  arrived_fair s kind r lamps =
+  arrived_fair : (s : ℕ) (kind : LineKind) (m : Motion) (lamps : Lamps) → Moves (arrives w i (GoesTo s) kind m lamps)
+  arrived_fair s kind m lamps =
       let q : Quiet 1 (update_indicators i c.lamps lamps) = lamps_quiet i c.lamps lamps in
-      one_fair (arrives w i (GoesTo s) kind r lamps) refl (omega (arith, q.size)) (one_move 2 i s 0 refl q) refl refl
+      one_fair (arrives w i (GoesTo s) kind m lamps) refl (omega (arith, q.size)) (one_move 2 i s 0 refl q) refl refl
 
-  repositioned_fair : (s : ℕ) (kind : LineKind) (r : MovementResult) (lamps : Lamps) → Moves (arrives w i (Repositions s) kind r lamps)
-  repositioned_fair s kind r lamps =
+  repositioned_fair : (s : ℕ) (kind : LineKind) (m : Motion) (lamps : Lamps) → Moves (arrives w i (Repositions s) kind m lamps)
+  repositioned_fair s kind m lamps =
       let q : Quiet 2 (word_of (ElevatorIdle i s) ∷ update_indicators i c.lamps both_lit) =
       quiet_join (quiet_one 4 i s 0 refl) (lamps_quiet i c.lamps both_lit) in
-      one_fair (arrives w i (Repositions s) kind r lamps) refl (omega (arith, q.size)) (one_move 3 i s 0 refl q) refl refl
+      one_fair (arrives w i (Repositions s) kind m lamps) refl (omega (arith, q.size)) (one_move 3 i s 0 refl q) refl refl
 
 pub move_fair : (dt : Float) (w : World) (i : ℕ) → Fair (min w.stops.count 64 + 3) 64 w.total_moves (car_at w.cars.items i) (move_of dt w i)
 unfolding how_many

@@ -4,7 +4,7 @@ use Rattle.std.specs.Float.{binary64}
 use Rattle.std.specs.Float.Ieee.{of_bits, add, sub, le}
 use Rattle.float.specs.Float as Float
 use Rattle.float.specs.Float.{one, two, epsilon, signum}
-use Rattle.motion.specs.Movement.{tick_movement, arrived_at}
+use Rattle.motion.specs.Movement.{tick_movement, arrived_at, moved_to}
 use Rattle.motion.specs.declared.movement.MovementResult.{MovementResult}
 use Rattle.world.specs.World.{car_at, new_car, empty_world, serves_none}
 use Rattle.world.specs.With.{with_plan, with_cars, with_orders}
@@ -18,7 +18,6 @@ use Rattle.world.specs.declared.LineKind.TheVariants.{Linear, Loop}
 use Rattle.world.specs.declared.ElevatorPhase.TheVariants.{MovingToStop}
 use Rattle.std.specs.declared.option.Option.TheVariants.{None, Some}
 use Rattle.sorted.specs.Sorted.{sorted_stops}
-use Rattle.landing.specs.Landing.{driven_to}
 use Rattle.movement_system.specs.Passing.{start_of, end_of, emit_range}
 use Rattle.tick.specs.Tick.{tick_world, tick_words}
 use Rattle.tick.specs.Room.{room_of}
@@ -128,7 +127,7 @@ pub record Traps : Type 0 where
   -- "signum of zero as 0": "+0 gives 1, -0 gives -1", so a car that goes down from its stop is not there but moves on, unless the stop is at -0
   pub plus_zero : signum Float.zero ≡ one
   pub minus_zero : signum minus_zero_lem ≡ minus_one
-  pub goes_on : backwards Float.zero ≡ driven_to (f64 0xbfd0_0000_0000_0000) (f64 0xbfe0_0000_0000_0000)
+  pub goes_on : backwards Float.zero ≡ moved_to (f64 0xbfd0_0000_0000_0000) (f64 0xbfe0_0000_0000_0000)
   pub is_there : backwards minus_zero_lem ≡ arrived_at minus_zero_lem
   -- "counting a stop on which a tick ends exactly (neither tick counts it)": the first tick ends on stop 1, the third passes stop 2
   pub ends_on_stop : position (world_after_ticks 1 on_the_stop) 0 ≡ one

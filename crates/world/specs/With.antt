@@ -7,6 +7,7 @@ use Rattle.world.specs.declared.Table.{Table}
 use Rattle.world.specs.Tables.{Queue, Stops, with_item}
 use Rattle.world.specs.declared.Lamps.{Lamps}
 use Rattle.world.specs.declared.Car.{Car}
+use Rattle.world.specs.declared.Motion.{Motion}
 use Rattle.world.specs.declared.Line.{Line}
 use Rattle.world.specs.declared.Calls.{Calls}
 use Rattle.world.specs.declared.Rider.{Rider}
@@ -112,35 +113,13 @@ with_orders c phase mode enabled repositioning target speed destinations command
   cooldown = c.cooldown;
 }
 
--- a car with a position, a velocity and a count of moves
-abbrev pub placed : Car → Float → Float → ℕ → Car
-placed c position velocity count = record {
-  line = c.line;
-  phase = c.phase;
-  door = c.door;
-  service_mode = c.service_mode;
-  enabled = c.enabled;
-  motion =
-      record {
-        position = position;
-        velocity = velocity;
-        max_speed = c.motion.max_speed;
-        acceleration = c.motion.acceleration;
-        deceleration = c.motion.deceleration;
-        inspection_speed_factor = c.motion.inspection_speed_factor;
-      };
-  door_transition_ticks = c.door_transition_ticks;
-  door_open_ticks = c.door_open_ticks;
-  lamps = c.lamps;
-  going_forward = c.going_forward;
-  repositioning = c.repositioning;
-  target_stop = c.target_stop;
-  manual_target_velocity = c.manual_target_velocity;
-  destination_queue = c.destination_queue;
-  door_command_queue = c.door_command_queue;
-  move_count = count;
-  cooldown = c.cooldown;
-}
+-- a motion record with a position and a velocity: "max speed, acceleration, deceleration, inspection factor" stay
+abbrev pub placed : Motion → Float → Float → Motion
+placed m position velocity = record m { position = position; velocity = velocity }
+
+-- a car with a motion record and a count of moves
+abbrev pub with_motion : Car → Motion → ℕ → Car
+with_motion c motion count = record c { motion = motion; move_count = count }
 
 -- a car that has come to its stop: its phase, door, target, repositioning flag, lamps, queue and cooldown
 abbrev pub with_arrived : Car → ElevatorPhase → DoorState → Option ℕ → Bool → Lamps → Queue ℕ → Option ℕ → Car

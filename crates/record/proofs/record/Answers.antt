@@ -15,7 +15,7 @@ use Rattle.movement_system.proofs.Moving.{Moves, cars_kept, calls_kept, doored_a
 use Rattle.tick.specs.Tick.{ticked, tick_world, tick_words}
 use Rattle.record.proofs.Giving.{is_broken, is_whole, is_refused, is_made, tick_refused, tick_taken_lem}
 use Rattle.record.proofs.record.Goals as goal
-use Rattle.record.proofs.record.Goals.{Else-broken, then-is_trip+then-result, then-is_trip+else-result, else-is_trip, then-asks_work, else-asks_work, then-has_turn, else-has_turn, then-car-ne0, else-car-ne0}
+use Rattle.record.proofs.record.Goals.{Else-broken, then-is_trip+then-landed, then-is_trip+else-landed, else-is_trip, then-asks_work, else-asks_work, then-has_turn, else-has_turn, then-car-ne0, else-car-ne0}
 
 -- ---- counts by another name
 
@@ -65,30 +65,30 @@ loop-i-preserved c =
     let so_far : s.i + 1 ≤ c.min-cars.result = omega (arith, c.loop-i-test.true) in
     let trip = c.trip_of-trip in
     elim c.if-is_trip.branch [
-      | then-is_trip+then-result u ↦
+      | then-is_trip+then-landed u ↦
           let look =
-          looked c.in-Tick.dt s.w s.i trip.result _ u.leader_of-leader.result u.landing-result.result u.if-asks_work.lamps trip.ensures
-          (rw c.is_trip.ensures at u.if-is_trip.true) (ap (λ (l : Line). l.kind) u.line_at-kind.ensures) u.leader_of-leader.ensures u.landing-result.ensures
+          looked c.in-Tick.dt s.w s.i trip.result _ u.leader_of-leader.result u.landing-landed.result u.if-asks_work.lamps trip.ensures
+          (rw c.is_trip.ensures at u.if-is_trip.true) (ap (λ (l : Line). l.kind) u.line_at-kind.ensures) u.leader_of-leader.ensures u.landing-landed.ensures
           (elim u.if-asks_work.branch [
             | then-asks_work z ↦ inr (rw u.asks_work.ensures at z.if-asks_work.true, z.lamps-is ∙ z.work_of-lamps.ensures)
             | else-asks_work z ↦ inl (rw u.asks_work.ensures at z.if-asks_work.false, z.lamps-is)
           ]) in (
             so_far,
-            comes_in c.in-Tick.dt _ s.w c.if-is_trip.w _ s.log _ c.if-is_trip.log s.i trip.result _ u.landing-result.result u.if-asks_work.lamps c.new-sort.result u.tell-moves.result _ _ u.distance_by.result u.come.result s.invariant.1 look
-                u.tell-moves.ensures refl refl u.distance_by.ensures u.if-result.true u.come.ensures u.w-is u.log-is,
+            comes_in c.in-Tick.dt _ s.w c.if-is_trip.w _ s.log _ c.if-is_trip.log s.i trip.result _ u.landing-landed.result u.if-asks_work.lamps c.new-sort.result u.tell-moves.result _ _ u.distance_by.result u.come.result s.invariant.1 look
+                u.tell-moves.ensures refl refl u.distance_by.ensures u.if-landed.true u.come.ensures u.w-is u.log-is,
             s.invariant.2,
           )
-      | then-is_trip+else-result u ↦
+      | then-is_trip+else-landed u ↦
           let look =
-          looked c.in-Tick.dt s.w s.i trip.result _ u.leader_of-leader.result u.landing-result.result u.if-asks_work.lamps trip.ensures
-          (rw c.is_trip.ensures at u.if-is_trip.true) (ap (λ (l : Line). l.kind) u.line_at-kind.ensures) u.leader_of-leader.ensures u.landing-result.ensures
+          looked c.in-Tick.dt s.w s.i trip.result _ u.leader_of-leader.result u.landing-landed.result u.if-asks_work.lamps trip.ensures
+          (rw c.is_trip.ensures at u.if-is_trip.true) (ap (λ (l : Line). l.kind) u.line_at-kind.ensures) u.leader_of-leader.ensures u.landing-landed.ensures
           (elim u.if-asks_work.branch [
             | then-asks_work z ↦ inr (rw u.asks_work.ensures at z.if-asks_work.true, z.lamps-is ∙ z.work_of-lamps.ensures)
             | else-asks_work z ↦ inl (rw u.asks_work.ensures at z.if-asks_work.false, z.lamps-is)
           ]) in (
             so_far,
-            goes_on_lem c.in-Tick.dt _ s.w c.if-is_trip.w _ s.log _ c.if-is_trip.log s.i trip.result _ u.landing-result.result u.if-asks_work.lamps c.new-sort.result u.tell-moves.result _ _ u.distance_by.result s.invariant.1 look c.new-sort.ensures
-                u.tell-moves.ensures refl refl u.distance_by.ensures u.if-result.false u.w-is u.log-is,
+            goes_on_lem c.in-Tick.dt _ s.w c.if-is_trip.w _ s.log _ c.if-is_trip.log s.i trip.result _ u.landing-landed.result u.if-asks_work.lamps c.new-sort.result u.tell-moves.result _ _ u.distance_by.result s.invariant.1 look c.new-sort.ensures
+                u.tell-moves.ensures refl refl u.distance_by.ensures u.if-landed.false u.w-is u.log-is,
             s.invariant.2,
           )
       | else-is_trip u ↦ (
