@@ -27,7 +27,8 @@ abbrev pub is_accepted : Answer → Bool
 is_accepted (Ok a) = true
 is_accepted (Err r) = false
 
--- what an answer says, in the paper's numbers: the refusal's or none, "how many were used and how many log words were written"
+-- what an answer says, in the paper's numbers: the refusal's or none, "how many were used and how many log words were
+-- written"
 pub record AnswerNumbers : Type 0 where
   pub refusal : Option ℕ
   pub used : ℕ
