@@ -41,7 +41,7 @@ use Rattle.record_kinds.proofs.Proved.{paper_room}
 use Rattle.conditions.specs.Refusals.{kind, n, s, v, served, RawZero, phase_of, phase_car_of, aboard_of, top_of, million, thousand, ten, one, NotInSize, size_not_finite, size_above, NotFromZero, from_not_finite, from_below, from_above, NotAboveZero, above_not_finite, above_below, above_above, Broken, destinations_above, commands_above, NoKind, kind_0, kind_above, stop_number, line_number, rider_number, route_number, NotNow, load_after, order_before, second_start, CountOutside, CutShort, FieldOutside, FloatOutside, NotNext, NotLoaded, CannotGo, QueueFull, LastTick, LogShort, place, Place, Verdict}
 use Rattle.conditions.proofs.Answering.{behind, checks_in}
 use Rattle.conditions.proofs.Deciding.{Decides, less, most, same, flag, clear, fails, through, never, non, ◌and◌, ◌or◌, past, choice, AnyBelow, any}
-use Rattle.conditions.proofs.Reading.{Read, done, silent, asked, sure}
+use Rattle.conditions.proofs.Reading.{Read, done, silent, asked, unmet, sure}
 use Rattle.conditions.proofs.BrokenWorld.{InLine, line_decided, broken_decided}
 use Rattle.conditions.proofs.Asking as Ask
 
@@ -296,12 +296,14 @@ module _ (x : Verdict) (w : World) (words log : List ℕ) where
       asked x refl
       (through (Ask.float_of_line words K) (Ask.float_asks words K)
       (same (s words) 1 and (above_zero million (float_at words 1) Ranges.million million_is or from_zero million (float_at words 3) Ranges.million million_is))) λ n4.
+      let few_listed : served words ≤ 64 = few words (λ h. n3 (Ask.count_of_line words K h)) in
+      unmet x (fails (less 64 (served words)) (λ h. omega (arith, few_listed))) λ n64.
       asked x refl (through (load_after (inl K)) (Ask.now_asks w words K) (flag w.started)) λ n6.
       asked x refl
       (through (Ask.next_of_line w words K) (Ask.next_asks w words K)
       (past 8 (n words) (not_most 7 (n words) (λ h. n3' (line_number K h))) (other (n words) w.lines.count))) λ n7.
       asked x refl
-      (through (Ask.loaded_of_line w words K) (Ask.loaded_asks w words K) (list_decided w.stops.count words (served words) (line_kind_of head words) (not (eqb (v words) 65535)) (few words (λ h. n3 (Ask.count_of_line words K h))))) λ n8.
+      (through (Ask.loaded_of_line w words K) (Ask.loaded_asks w words K) (list_decided w.stops.count words (served words) (line_kind_of head words) (not (eqb (v words) 65535)) few_listed)) λ n8.
       quiet K (λ e. e) (λ e. e) (λ e. e) (λ e. e)
 
   stop_read : kind words ≡ 2 → Read x (read_in (stop_record head words)) behind_kind

@@ -66,6 +66,14 @@ module _ (x : Verdict) where
       go (inl q) = met (q.1 ∙ ap refused e) (d.so q.0)
       go (inr q) = let h : (p.Holds → ⊥) = holds_not d q.0 in skipped h ((r h).read q.1)
 
+  -- a check that never holds
+  pub unmet : {c : Check} {cs : List Check} {ps : List Place} → c.holds ≡ false → (c.holds ≡ false → Read cs ps) → Read (c ∷ cs) ps
+  unmet {c} {cs} {ps} e r = record { read = go }
+    where
+      go : Says (c ∷ cs) x → ByPlaces ps x
+      go (inl q) = yes (sym q.0 ∙ e)
+      go (inr q) = (r q.0).read q.1
+
   -- a check that holds, at a place that has its condition
   pub sure : {c : Check} {cs : List Check} {p : Place} {ps : List Place}
       → refusal_number c.refusal ≡ p.number → c.holds ≡ true → p.Holds → Read (c ∷ cs) (p ∷ ps)

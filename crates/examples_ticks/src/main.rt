@@ -2,19 +2,45 @@
 // other from an empty world. It prints the name, and after each tick the tick's words and the world; a refusal ends the tape. A line without '=' is a heading.
 #![tactic(auto)]
 
-mod play; // a tape's records
 mod show; // a tick's lines
 
 use anyhow::{Context, Result};
-use play::play;
+use record::record;
+use show::Tick;
 use std::alloc::Global;
+use std::io;
 use std::io::{BufRead, BufReader, BufWriter, Write};
+use world::empty::empty;
 
 // Stays: here and in examples_records. A crate for these four lines would need a contract that says each word, two wrong programs and a test of its memory.
 fn words_of(alloc: Global, tape: &str) -> Result<Vec<u32>> {
     tape.split_whitespace()
         .map(|word| u32::from_str_radix(word, 16).context(format_args!("reading {word:?}")))
         .try_collect(alloc)
+}
+
+// Record after record from an empty world, up to a refusal. A tick writes a word at least, and no other record writes one.
+// Stays: a loop here and one in examples_records, as it says there.
+#[tactic(auto, using(conditions::proofs::Taking::uses_some, conditions::proofs::Taking::uses_within, conditions::proofs::Taking::writes_within, conditions::proofs::Taking::same_length, conditions::proofs::Taking::writes_all))]
+fn play<W: Write>(out: &mut W, log: &mut [u32], tape: &[u32]) -> io::Result<()> {
+    let mut world = empty();
+    let mut rest = tape;
+    while !rest.is_empty() {
+        let recorded = record(world, rest, log);
+        world = recorded.world;
+        match recorded.answer {
+            Err(refusal) => return writeln!(out, "refused {}", u32::from(refusal)),
+            Ok(accepted) => {
+                if 0 < accepted.written {
+                    let words = &log[..accepted.written];
+                    let world = &world;
+                    write!(out, "{}", Tick { words, world })?;
+                }
+                rest = &rest[accepted.used..];
+            }
+        }
+    }
+    Ok(())
 }
 
 // A heading as it is, or a tape's name and what its records give.

@@ -71,7 +71,18 @@ Threes (a ∷ b ∷ c ∷ d ∷ os) = ⊥
 
 computed : (a b c : Outcome) → Threes (outcomes empty_world (given (three a b c)))
 unfolding given outcomes outcome next record_of Tape.record_of tick_once decoded kind_of n_of s_of v_of float_at start any_to counts_broken broken room_of empty_world tick_world tick_words doors_world doors_words plus run_to run_cars tick_word is_finite of_bits le moved doored clear_words_to
-computed a b c = record { accepted = refl; started = refl; refused = refl; waits = refl; ticked = refl; ticks = refl; word = refl }
+computed a b c = record {
+  accepted = refl;
+  one_word = refl;
+  started = refl;
+  refused = refl;
+  number_12 = refl;
+  waits = refl;
+  ticked = refl;
+  three_words = refl;
+  ticks = refl;
+  word = refl;
+}
 
 shown : Shown
 unfolding gave

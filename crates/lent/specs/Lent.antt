@@ -3,14 +3,15 @@ use Rattle.std.specs.Prelude.{◌≡◌, true, List, [], ◌∷◌, ℕ, Ok, Err
 use Rattle.world.specs.World.{empty_world}
 use Rattle.world.specs.declared.World.{World}
 use Rattle.world.specs.declared.refusal.Refusal.TheVariants.{LogShort}
-use Rattle.record.specs.Record.{Answer}
-use Rattle.record.specs.Record.{Outcome, record_of}
+use Rattle.std.specs.declared.option.Option.TheVariants.{None, Some}
+use Rattle.record.specs.Record.{Answer, Outcome, answer_numbers, record_of}
 use Rattle.record.specs.Calls.{Call, outcome, next, world_after}
 use Rattle.conditions.specs.Conditions.{Kept}
 
 -- a call that is lent the world `w`, the words and the log: its answer, the world and the log as it leaves them
 pub record Lent (w : World) (words lent : List ℕ) (a : Answer) (w' : World) (lent' : List ℕ) : Type 0 where
   pub answer : a ≡ (record_of w words lent).answer
+  pub numbers : answer_numbers a ≡ answer_numbers (record_of w words lent).answer
   pub world : w' ≡ (record_of w words lent).world
   pub log : lent' ≡ (record_of w words lent).log
 
@@ -70,12 +71,15 @@ three a b c =
 pub record Three (a b c : Outcome) : Type 0 where
   -- an accepted record leaves the next world
   pub accepted : a.answer ≡ Ok (record { used = 1; written = 0 })
+  pub one_word : answer_numbers a.answer ≡ record { refusal = None; used = 1; written = 0 }
   pub started : a.world.started ≡ true
   -- a refused one the old
   pub refused : b.answer ≡ Err LogShort
+  pub number_12 : answer_numbers b.answer ≡ record { refusal = Some 12; used = 0; written = 0 }
   pub waits : b.world.ticks ≡ 0
   -- a tick's word is in the log
   pub ticked : c.answer ≡ Ok (record { used = 3; written = 1 })
+  pub three_words : answer_numbers c.answer ≡ record { refusal = None; used = 3; written = 1 }
   pub ticks : c.world.ticks ≡ 1
   pub word : c.log ≡ 0 ∷ []
 

@@ -2,7 +2,7 @@
 #![tactic(auto)]
 
 ghost use Rattle.std.specs.Prelude.{◌≡◌, true};
-ghost use Rattle.report.specs.Report.{report_of};
+ghost use Rattle.report.specs.Report.{report_numbers, report_of};
 ghost use Rattle.lent.specs.Lent.{Lent, LentCalls};
 
 use record::{Answer, record};
@@ -20,7 +20,8 @@ pub fn record_in_place(world: &mut World, words: &[u32], log: &mut [u32]) -> Ans
 
 // The report of a lent world and a log's words: the by-value report, and the world left alone. An entry of the library: no crate here calls it.
 pub fn report_lent(world: &World, words: &[u32]) -> Reported
-    ensures { result ≡ report_of world.now words.now }
+    ensures reported { result ≡ report_of world.now words.now }
+    ensures numbers { report_numbers result ≡ report_numbers (report_of world.now words.now) }
 {
     report(*world, words)
 }

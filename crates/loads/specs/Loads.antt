@@ -8,14 +8,15 @@ use Rattle.world.specs.declared.World.{World}
 use Rattle.world.specs.declared.Line.{Line}
 use Rattle.world.specs.declared.CarPlan.{CarPlan}
 use Rattle.world.specs.declared.Rider.{Rider}
-use Rattle.world.specs.declared.refusal.Refusal.TheVariants.{NotNow, NotNext, NotLoaded}
+use Rattle.world.specs.declared.refusal.Refusal.TheVariants.{FieldOutside, NotNow, NotNext, NotLoaded}
 use Rattle.changes.specs.Changes.{Changed, not_next}
 use Rattle.world.specs.Tables.{with_item}
 
--- 1 line
+-- 1 line: "v count of served stops, at most 64"; a record of the tape never has more
 abbrev pub line_checks : World → ℕ → Line → List Check
 line_checks w number row =
-    check NotNow w.started
+    check FieldOutside (ltb 64 row.serves.stops.count)
+    ∷ check NotNow w.started
     ∷ check NotNext (not_next 8 w.lines.count number)
     ∷ check NotLoaded (line_broken w.stops.count row)
     ∷ []

@@ -75,6 +75,7 @@ pub fn load_car(world: World, number: u8, plan: CarPlan) -> Changed
 pub fn load_line(world: World, number: u8, line: Line) -> Changed
     ensures { result ≡ Loads.load_line world number line }
 {
+    refuse_if(64 < line.serves.stops.count, Refusal::FieldOutside)?;
     refuse_if(world.started, Refusal::NotNow)?;
     let lines = with_next(world.lines, number, line)?;
     refuse_if(line_broken(world.stops.count, line), Refusal::NotLoaded)?;

@@ -105,7 +105,7 @@ module _ (w : World) (h : Sound w) (log : List ℕ) (used : ℕ) where
   unfolding load_line line_broken any_to
   line_keeps number row =
       unless_keeps (line_checks w number row) _ refl
-      (λ q. let n : (number < 8) × (number ≡ w.lines.count) = is_next 8 w.lines.count number q.1.0 in
+      (λ q. let n : (number < 8) × (number ≡ w.lines.count) = is_next 8 w.lines.count number q.1.1.0 in
       record {
         counters = h.counters;
         shape =
@@ -115,7 +115,7 @@ module _ (w : World) (h : Sound w) (log : List ℕ) (used : ℕ) where
                     low = h.shape.plan.low;
                     few = omega (arith, n.0);
                     each =
-                        table_set (λ (l : Line). line_broken w.stops.count l ≡ false) no_line row refl q.1.1.0 w.lines.items number w.lines.count (number + 1)
+                        table_set (λ (l : Line). line_broken w.stops.count l ≡ false) no_line row refl q.1.1.1.0 w.lines.items number w.lines.count (number + 1)
                         h.shape.plan.each (λ j m e. omega (arith, e, n.1));
                   };
               cars = cars_stay w.lines.count (number + 1) w.stops.count w.stops.count (omega (arith, n.1)) (omega arith) h.shape.cars;

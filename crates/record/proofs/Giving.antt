@@ -18,14 +18,18 @@ use Rattle.tick.specs.Tick.{tick_world, tick_words}
 use Rattle.tick.specs.Room.{room_of, WordsFit}
 use Rattle.tick.proofs.Proved.{words_fit}
 use Rattle.record.specs.declared.Recorded.{Recorded}
-use Rattle.record.specs.Record.{Outcome, Gives, refused, checks_of_tick, ticked, tick_once, made_of, read_by, record_of}
+use Rattle.record.specs.Record.{Outcome, Gives, answer_numbers, refused, checks_of_tick, ticked, tick_once, made_of, read_by, record_of}
 
 -- a refusal: the answer, and the world as it was
 abbrev pub Says : Recorded → World → Refusal → Type 0
 Says r w f = (r.answer ≡ Err f) × (r.world ≡ w)
 
+-- a promise from its three parts: the same answer says the same numbers
+gives : {r : Recorded} {left : List ℕ} {o : Outcome} → r.answer ≡ o.answer → r.world ≡ o.world → left ≡ o.log → Gives r left o
+gives a w l = record { answer = a; numbers = ap answer_numbers a; world = w; log = l }
+
 refusal_gives : {r : Recorded} {w : World} {log : List ℕ} {f : Refusal} → Says r w f → Gives r log (refused w log f)
-refusal_gives h = record { answer = h.0; world = h.1; log = refl }
+refusal_gives h = gives h.0 h.1 refl
 
 -- what is refused is not taken
 not_both : (r : Refusal) → ◌≡◌ {A = Result (Unit {0}) Refusal} (Err r) (Ok tt) → ⊥
@@ -77,7 +81,7 @@ module _ (w : World) (log : List ℕ) where
   tick_taken_lem {at = at} used dt t n m h =
       let fits : length (tick_words w dt) ≤ room_of w = words_fit w dt in
       let all : at ≡ length (tick_words w dt) = omega (arith, h.next, fits, has_room_lem t) in
-      rw (tick_said used dt (Ok tt) t) (record { answer = n ∙ ap (λ (x : ℕ). Ok (record { used = used; written = x })) all; world = m; log = h.list })
+      rw (tick_said used dt (Ok tt) t) (gives (n ∙ ap (λ (x : ℕ). Ok (record { used = used; written = x })) all) m h.list)
 
   -- ---- the record call
 

@@ -2,7 +2,9 @@
 use Rattle.std.specs.Prelude.{Result, Ok, Err, ◌≡◌, ℕ, Bool, true, false, List, [], ◌∷◌, length, Float}
 use Rattle.std.proofs.lemmas.List.Edits.{sets}
 use Rattle.sound.specs.Sound.{broken}
-use Rattle.world.specs.Refusal.{Check, check, unless}
+use Rattle.std.specs.declared.option.Option.{Option}
+use Rattle.std.specs.declared.option.Option.TheVariants.{None, Some}
+use Rattle.world.specs.Refusal.{Check, check, unless, refusal_number}
 use Rattle.world.specs.declared.World.{World}
 use Rattle.world.specs.declared.refusal.Refusal.{Refusal}
 use Rattle.world.specs.declared.refusal.Refusal.TheVariants.{BrokenWorld}
@@ -16,7 +18,7 @@ use Rattle.tick.specs.Tick.{tick_world, tick_words}
 use Rattle.record.specs.declared.Accepted.{Accepted}
 use Rattle.record.specs.declared.Recorded.{Recorded}
 
--- ---- the answer: the certificate's "an accepted record or one numbered refusal"; refusal_number of `world` gives the numbers
+-- ---- the answer: the certificate's "an accepted record or one numbered refusal"
 
 abbrev pub Answer : Type 0
 Answer = Result Accepted Refusal
@@ -25,15 +27,23 @@ abbrev pub is_accepted : Answer → Bool
 is_accepted (Ok a) = true
 is_accepted (Err r) = false
 
--- "the answer says how many were used"; a refusal "answers the number and 0 words"
-abbrev pub used_of : Answer → ℕ
-used_of (Ok a) = a.used
-used_of (Err r) = 0
+-- what an answer says, in the paper's numbers: the refusal's or none, "how many were used and how many log words were
+-- written"
+pub record AnswerNumbers : Type 0 where
+  pub refusal : Option ℕ
+  pub used : ℕ
+  pub written : ℕ
 
--- "and how many log words were written"
+-- a refusal "answers the number and 0 words"
+abbrev pub answer_numbers : Answer → AnswerNumbers
+answer_numbers (Ok a) = record { refusal = None; used = a.used; written = a.written }
+answer_numbers (Err r) = record { refusal = Some (refusal_number r); used = 0; written = 0 }
+
+abbrev pub used_of : Answer → ℕ
+used_of a = (answer_numbers a).used
+
 abbrev pub written_of : Answer → ℕ
-written_of (Ok a) = a.written
-written_of (Err r) = 0
+written_of a = (answer_numbers a).written
 
 -- ---- what a call gives
 
@@ -52,6 +62,7 @@ refused w log r = record { answer = Err r; world = w; log = log }
 -- a call made by code: its answer and world, and the log that it left
 pub record Gives (r : Recorded) (left : List ℕ) (o : Outcome) : Type 0 where
   pub answer : r.answer ≡ o.answer
+  pub numbers : answer_numbers r.answer ≡ answer_numbers o.answer
   pub world : r.world ≡ o.world
   pub log : left ≡ o.log
 

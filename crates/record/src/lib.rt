@@ -1,8 +1,9 @@
 // The record call: one record of a tape, checked in the paper's order and done. What knows no loop is in record_kinds.
 #![tactic(auto)]
 
-ghost use Rattle.std.specs.Prelude.{◌≡◌, ℕ, List, Err};
+ghost use Rattle.std.specs.Prelude.{◌≡◌, ℕ, List, Err, true};
 ghost use Rattle.record.specs.Record as Call;
+ghost use Rattle.record.specs.Says.{AnswersSay};
 ghost use Rattle.record_kinds.specs.Kinds.{change_by};
 
 use arrival::{asks_work, work_of};
@@ -140,4 +141,12 @@ pub fn record(world: World, words: &[u32], log: &mut [u32]) -> Recorded
         }),
         world: w,
     }
+}
+
+// Carries the claim on the numbers that answers say.
+#[tactic(auto, using(crate::proofs::Saying::answers_say))]
+pub fn answers_say() -> bool
+    ensures { (result ≡ true) × AnswersSay }
+{
+    true
 }

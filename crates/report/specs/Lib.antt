@@ -1,2 +1,3 @@
 pub mod Report
 pub mod Counting
+pub mod Says
