@@ -267,6 +267,9 @@ module _ (piece out lent' out' piece' : List ℕ) (w w₁ w₂ : Writer ℕ) (op
       stands_there : (text : List ℕ) → Prints w text w₂ → Wrote out 0 text out' w₂.at
       stands_there text t = rw (opened, start, shut) at t.wrote
 
+      bytes_fit : length p.bytes ≤ length piece
+      bytes_fit = rw left_is (omega (arith, h))
+
       all_fits : length p.text ≤ length out
       all_fits = omega (arith, g.text.wrote.next, g.at, start, ap length opened)
 
@@ -278,14 +281,16 @@ module _ (piece out lent' out' piece' : List ℕ) (w w₁ w₂ : Writer ℕ) (op
             log = g.log;
             kept = held_is;
             text = stands_there _ (told_also g.text (rw (← g.world, ← g.counts, left_is) k.text));
-            fits = rw length-append (omega (arith, small, g.at, o, ending_length p.world p.counts (length p.bytes)));
+            kept_fits = bytes_fit;
+            text_fits = rw length-append (omega (arith, small, g.at, o, ending_length p.world p.counts (length p.bytes)));
           }
       go false e k = record {
         study = rw (g.world, g.counts, k.ended, g.over);
         log = g.log;
         kept = held_is;
         text = stands_there p.text (rw append-nil at (told_also g.text k.text));
-        fits = all_fits;
+        kept_fits = bytes_fit;
+        text_fits = all_fits;
       }
 
   pub advances : (study : Study) (log : List ℕ) (held : ℕ)

@@ -94,5 +94,6 @@ pub record Gives (study' : Study) (a : Advanced) (piece out piece' lent' out' : 
   pub log : lent' ≡ p.log
   pub kept : Wrote piece 0 p.bytes piece' a.held
   pub text : Wrote out 0 p.text out' a.at
-  -- nothing of the text is lost
-  pub fits : length p.text ≤ length out
+  -- nothing of these is lost
+  pub kept_fits : length p.bytes ≤ length piece
+  pub text_fits : length p.text ≤ length out

@@ -40,3 +40,7 @@ kept_there piece held kept e = record {
   next = simp length-take (omega arith);
   list = sym (sets-eq (take held piece) piece 0 (simp length-take (omega arith)) ∙ ap (λ (t : List ℕ). take held piece ++ t) (rw none_more (drop_taken held piece)) ∙ take-append-drop held piece);
 }
+
+-- and is what the next round begins with
+pub kept_again : (piece : List ℕ) (held kept : ℕ) → kept ≡ min held (length piece) → take kept piece ≡ take held piece
+kept_again piece held kept e = rw e (take_min held piece)

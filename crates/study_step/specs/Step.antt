@@ -77,12 +77,12 @@ reading Nothing held piece = Unasked
 abbrev pub begun : Run
 begun = record { study = fresh; held = 0; ended = false }
 
--- what the code gives: the run and the log, the bytes that are kept at the piece's start, the text at the buffer's start, and where it goes
+-- what the code gives
 pub record Steps (run' : Run) (o : Output) (piece out piece' lent' out' : List ℕ) (s : Stepped) : Type 0 where
-  pub study : run'.study ≡ s.next.study
-  pub log : lent' ≡ s.next.log
+  -- the next round begins with what this one leaves
+  pub next : running run' lent' piece' ≡ s.next
+  -- the kept bytes at the piece's start, the text at the buffer's, and what stands behind them stays
   pub kept : Wrote piece 0 s.next.kept piece' run'.held
-  pub ended : run'.ended ≡ s.next.ended
   pub text : Wrote out 0 s.text out' o.count
   -- nothing of the text is lost
   pub fits : length s.text ≤ length out

@@ -1,7 +1,7 @@
 -- `study_step::step` meets its contract. Assumes nothing.
 use Rattle.std.proofs.Common.{◌≡◌, ℕ, ◌+◌, ◌-◌, min, length, refl, arith}
 use Rattle.study_step.specs.Step.{stepped}
-use Rattle.study_step.proofs.AtHand.{at_hand, how_many_read, kept_there}
+use Rattle.study_step.proofs.AtHand.{at_hand, how_many_read, kept_there, kept_again}
 use Rattle.study_step.proofs.step.Goals as goal
 
 all_kept : (n : ℕ) → n + 0 ≡ n
@@ -23,12 +23,14 @@ returns-in-Nothing c = rw c.in-Nothing.is (rw all_kept at c.play-in-Nothing.ensu
 
 pub returns-in-Failure : goal.returns-in-Failure
 unfolding stepped
-returns-in-Failure c = rw c.in-Failure.is
+returns-in-Failure c =
+    let piece = c.args.piece.now in
+    let held = c.args.run.now.held in
+    let clipped : c.min-run.result ≡ min held (length piece) = omega (arith, c.min-run.ensures, c.told-piece) in
+    rw c.in-Failure.is
     (record {
-      study = refl;
-      log = refl;
-      kept = kept_there c.args.piece.now c.args.run.now.held c.min-run.result (omega (arith, c.min-run.ensures, c.told-piece));
-      ended = refl;
+      next = rw (kept_again piece held c.min-run.result clipped);
+      kept = kept_there piece held c.min-run.result clipped;
       text = c.put_failure.ensures;
       fits = omega (arith, c.told-out);
       stream = refl;
