@@ -218,7 +218,7 @@ reached ended p₀ piece out₀ log out s from g e =
 
 -- ---- a piece
 
-words_of_count : (b : List ℕ) → length (words_of b) ≡ length b / 4
+pub words_of_count : (b : List ℕ) → length (words_of b) ≡ length b / 4
 unfolding words_of
 words_of_count [] = refl
 words_of_count (x ∷ []) = omega arith

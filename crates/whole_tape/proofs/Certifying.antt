@@ -1,6 +1,6 @@
 -- What the study prints is of record calls as the certificate has them. Assumes nothing.
 use mathlib.Core.Path.{◌≡◌, refl, sym, ap, ◌∙◌}
-use mathlib.Core.Bool.{Bool, true, false, ◌&&◌, cond}
+use mathlib.Core.Bool.{Bool, true, false, cond}
 use mathlib.Core.List.{List, [], ◌∷◌, ◌++◌, append-nil, append_assoc}
 use Prim.Native.Nat.{ℕ, ◌^◌, ◌<◌}
 use lib.Dec.{eqb}
@@ -9,7 +9,6 @@ use Rattle.world.specs.World.{empty_world}
 use Rattle.world.specs.declared.World.{World}
 use Rattle.layout.specs.Layout.{kind_of}
 use Rattle.record.specs.Record.{Outcome, record_of, is_accepted, written_of}
-use Rattle.conditions.specs.Conditions.{Kept}
 use Rattle.record.specs.Calls.{Call, outcome, next, head_word, world_after}
 use Rattle.record.specs.Record.{Answer}
 use Rattle.std.specs.Prelude.{Ok, Err}
