@@ -4,7 +4,7 @@
 
 use std::io::{self, Read, Write};
 use std::process::ExitCode;
-use study_step::{Got, Output, Stream, begin, reads, step};
+use study_step::{Got, Stream, begin, reads, step};
 
 // All rounds. Answers the last one's output. None follows the report, a refusal or a read that failed. No run makes more.
 // Stays: a `for` to a count that no run reaches. Each loop is proved to end, and nobody knows how long the input is: a `loop` would need the same count
@@ -20,10 +20,7 @@ fn run<R: Read, W: Write, E: Write>(
     let mut run = begin();
     for _ in 0..u64::MAX {
         let got = match reads(&run) {
-            Some(from) => match source.read(&mut piece[from..]) {
-                Ok(count) => Got::Bytes(count),
-                Err(_) => Got::Failure,
-            },
+            Some(from) => Got::from(source.read(&mut piece[from..])),
             None => Got::Nothing,
         };
         let made = step(&mut run, &mut piece, got, &mut log, &mut out);

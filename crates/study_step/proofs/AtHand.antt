@@ -1,9 +1,11 @@
 -- The bytes at hand: those that are kept, and behind them those that were read. Assumes nothing.
-use Rattle.std.proofs.Common.{◌≡◌, ℕ, zero, suc, ◌+◌, ◌-◌, min, List, [], ◌∷◌, ◌++◌, length, take, drop, sym, refl, ap, ◌∙◌, arith, length-take, length-drop}
+use Rattle.std.proofs.Common.{◌≡◌, Bool, ℕ, zero, suc, ◌+◌, ◌-◌, min, List, [], ◌∷◌, ◌++◌, length, take, drop, sym, refl, ap, ◌∙◌, arith, length-take, length-drop}
 use Rattle.std.proofs.lemmas.List.{take-append-drop}
 use lib.Dec.{eqb}
 use lib.Seq.{sets-eq}
 use Rattle.log_writes.specs.Log.{Wrote}
+use Rattle.pieces.specs.declared.Study.{Study}
+use Rattle.study_step.specs.Step.{Running}
 use Rattle.study_text.proofs.Keeping.{take_min}
 
 none_more : (n : ℕ) → 0 + n ≡ n
@@ -44,3 +46,8 @@ kept_there piece held kept e = record {
 -- and is what the next round begins with
 pub kept_again : (piece : List ℕ) (held kept : ℕ) → kept ≡ min held (length piece) → take kept piece ≡ take held piece
 kept_again piece held kept e = rw e (take_min held piece)
+
+-- the next round's start, part by part
+pub leaves : {s s' : Study} {log log' kept kept' : List ℕ} {ended : Bool} → s ≡ s' → log ≡ log' → kept ≡ kept'
+    → ◌≡◌ {A = Running} (record { study = s; log = log; kept = kept; ended = ended }) (record { study = s'; log = log'; kept = kept'; ended = ended })
+leaves s l k = rw (s, l, k)

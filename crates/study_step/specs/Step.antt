@@ -1,5 +1,5 @@
 -- A step of the study's program: all that it does between a read and a write.
-use Rattle.std.specs.Prelude.{◌≡◌, Bool, true, false, not, ◌&&◌, ◌||◌, List, ◌++◌, ℕ, ◌≤◌, ltb, eqb, length, take, drop}
+use Rattle.std.specs.Prelude.{◌≡◌, Bool, true, false, not, ◌&&◌, ◌||◌, List, ◌++◌, ℕ, ◌≤◌, ltb, eqb, length, take, drop, Result, Ok, Err}
 use Rattle.log_writes.specs.Log.{Wrote}
 use Rattle.study_numbers.specs.NumberText.{text, newline}
 use Rattle.pieces.specs.Pieces.{advanced, playing, study_of, fresh}
@@ -67,6 +67,10 @@ stepped r Failed = failed r
 
 abbrev pub running : Run → List ℕ → List ℕ → Running
 running r log piece = record { study = r.study; log = log; kept = take r.held piece; ended = r.ended }
+
+abbrev pub got_of : {E : Type 0} → Result ℕ E → Got
+got_of (Ok n) = Bytes n
+got_of (Err e) = Failure
 
 abbrev pub reading : Got → ℕ → List ℕ → Reading
 reading (Bytes n) held piece = Read (take n (drop held piece))

@@ -3,11 +3,12 @@
 
 ghost use Rattle.std.specs.Prelude.{◌≡◌, ◌+◌, take, cond, Some, None};
 ghost use Rattle.log_writes.specs.Log.{Wrote};
-ghost use Rattle.study_step.specs.Step.{Steps, begun, stepped, played, cannot_read, running, reading};
+ghost use Rattle.study_step.specs.Step.{got_of, Steps, begun, stepped, played, cannot_read, running, reading};
 ghost use Rattle.study_step.specs.Step.{reads as wants};
 
 use log_writes::Writer;
 use pieces::{Study, advance};
+use std::io;
 
 // A run of the study: how many bytes of the piece are kept, at its start, and whether the input ended.
 #[derive(Clone, Copy)]
@@ -23,6 +24,17 @@ pub enum Got {
     Bytes(usize),
     Failure,
     Nothing,
+}
+
+impl From<io::Result<usize>> for Got {
+    ghost from_gives = { λ read got. got ≡ got_of read };
+
+    fn from(read: io::Result<usize>) -> Got {
+        match read {
+            Ok(count) => Got::Bytes(count),
+            Err(_) => Got::Failure,
+        }
+    }
 }
 
 #[derive(Clone, Copy)]

@@ -2,6 +2,8 @@
 use Rattle.std.proofs.Common.{◌≡◌, ℕ, List, ◌+◌, min, length, take, sym, refl, ap, ◌∙◌, arith}
 use Rattle.log_writes.proofs.Writing.{wrote_taken}
 use Rattle.study_text.proofs.Keeping.{take_min}
+use Rattle.study_step.proofs.AtHand.{leaves}
+use Rattle.pieces.specs.declared.Study.{Study}
 use Rattle.study_step.proofs.play.Goals as goal
 
 -- no place is past the piece's end
@@ -16,10 +18,10 @@ returns c =
     let cut : min end (length a.piece.now) ≡ min n (length a.piece.now) = omega (arith, c.saturating_add-end.ensures, c.told-piece) in
     let g = rw (same_bytes a.piece.now end n cut) at c.advance-made.ensures in
     record {
-      next = rw (g.study, g.log, wrote_taken g.kept g.kept_fits);
+      next = leaves g.study g.log (wrote_taken g.kept g.kept_fits);
       kept = g.kept;
       text = g.text;
       fits = g.text_fits;
       stream = refl;
-      over = rw g.study;
+      over = ap (λ (s : Study). s.over) g.study;
     }

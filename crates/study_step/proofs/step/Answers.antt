@@ -1,7 +1,7 @@
 -- `study_step::step` meets its contract. Assumes nothing.
 use Rattle.std.proofs.Common.{◌≡◌, ℕ, ◌+◌, ◌-◌, min, length, refl, arith}
 use Rattle.study_step.specs.Step.{stepped}
-use Rattle.study_step.proofs.AtHand.{at_hand, how_many_read, kept_there, kept_again}
+use Rattle.study_step.proofs.AtHand.{at_hand, how_many_read, kept_there, kept_again, leaves}
 use Rattle.study_step.proofs.step.Goals as goal
 
 all_kept : (n : ℕ) → n + 0 ≡ n
@@ -29,7 +29,7 @@ returns-in-Failure c =
     let clipped : c.min-run.result ≡ min held (length piece) = omega (arith, c.min-run.ensures, c.told-piece) in
     rw c.in-Failure.is
     (record {
-      next = rw (kept_again piece held c.min-run.result clipped);
+      next = leaves refl refl (kept_again piece held c.min-run.result clipped);
       kept = kept_there piece held c.min-run.result clipped;
       text = c.put_failure.ensures;
       fits = omega (arith, c.told-out);
