@@ -218,7 +218,7 @@ reached ended p₀ piece out₀ log out s from g e =
 
 -- ---- a piece
 
-words_of_count : (b : List ℕ) → length (words_of b) ≡ length b / 4
+pub words_of_count : (b : List ℕ) → length (words_of b) ≡ length b / 4
 unfolding words_of
 words_of_count [] = refl
 words_of_count (x ∷ []) = omega arith
@@ -237,8 +237,11 @@ not_at_end e s left out t = rw t (record { ended = refl; text = told_none })
 module _ (piece out lent' out' piece' : List ℕ) (w w₁ w₂ : Writer ℕ) (opened : w.items.now ≡ out) (start : w.at ≡ 0) (shut : w₂.items.now ≡ out') (end : ℕ) (ended : Bool) (s : Study) (from : ℕ)
     (over : Bool) (kept : ℕ) where
   -- what the code makes of them
+  abbrev left_so : Study
+  left_so = record { world = s.world; counts = s.counts; over = over }
+
   abbrev made : Advanced
-  made = record { study = record { world = s.world; counts = s.counts; over = over }; held = kept; at = w₂.at }
+  made = record { held = kept; at = w₂.at }
 
   closes : (p : Playing)
       → length out ≡ 65536
@@ -246,7 +249,7 @@ module _ (piece out lent' out' piece' : List ℕ) (w w₁ w₂ : Writer ℕ) (op
       → Reached s from (take end piece) w lent' w₁ p
       → Closes s ended (end - 4 * from) w₁ over w₂
       → Wrote piece 0 (drop (4 * from) (take end piece)) piece' kept
-      → Gives made piece out piece' lent' out' (close ended p)
+      → Gives left_so made piece out piece' lent' out' (close ended p)
   unfolding close
   closes p o h g k keeps =
       rw same_test
@@ -264,29 +267,30 @@ module _ (piece out lent' out' piece' : List ℕ) (w w₁ w₂ : Writer ℕ) (op
       stands_there : (text : List ℕ) → Prints w text w₂ → Wrote out 0 text out' w₂.at
       stands_there text t = rw (opened, start, shut) at t.wrote
 
+      bytes_fit : length p.bytes ≤ length piece
+      bytes_fit = rw left_is (omega (arith, h))
+
       all_fits : length p.text ≤ length out
       all_fits = omega (arith, g.text.wrote.next, g.at, start, ap length opened)
 
-      go : (e : Bool) → ends ended s.over ((end - 4 * from) / 4) w₁.at ≡ e → ClosesBy e s (end - 4 * from) w₁ over w₂ → Gives made piece out piece' lent' out' (cond e (closed p) p)
+      go : (e : Bool) → ends ended s.over ((end - 4 * from) / 4) w₁.at ≡ e → ClosesBy e s (end - 4 * from) w₁ over w₂ → Gives left_so made piece out piece' lent' out' (cond e (closed p) p)
       go true e k =
           let small : w₁.at < 32768 = ltb-true w₁.at 32768 (and_right (eqb ((end - 4 * from) / 4) 0) _ (and_right (not s.over) _ (and_right ended _ e))) in
           record {
-            world = g.world;
-            counts = g.counts;
-            over = k.ended;
+            study = rw (g.world, g.counts, k.ended);
             log = g.log;
             kept = held_is;
             text = stands_there _ (told_also g.text (rw (← g.world, ← g.counts, left_is) k.text));
-            fits = rw length-append (omega (arith, small, g.at, o, ending_length p.world p.counts (length p.bytes)));
+            kept_fits = bytes_fit;
+            text_fits = rw length-append (omega (arith, small, g.at, o, ending_length p.world p.counts (length p.bytes)));
           }
       go false e k = record {
-        world = g.world;
-        counts = g.counts;
-        over = k.ended ∙ g.over;
+        study = rw (g.world, g.counts, k.ended, g.over);
         log = g.log;
         kept = held_is;
         text = stands_there p.text (rw append-nil at (told_also g.text k.text));
-        fits = all_fits;
+        kept_fits = bytes_fit;
+        text_fits = all_fits;
       }
 
   pub advances : (study : Study) (log : List ℕ) (held : ℕ)
@@ -295,7 +299,7 @@ module _ (piece out lent' out' piece' : List ℕ) (w w₁ w₂ : Writer ℕ) (op
       → Reached s from (take end piece) w lent' w₁ (play_to (2 + length (take end piece)) ended (playing study log (take end piece)))
       → Closes s ended (end - 4 * from) w₁ over w₂
       → Wrote piece 0 (drop (4 * from) (take end piece)) piece' kept
-      → Gives made piece out piece' lent' out' (advanced ended (playing study log (take held piece)))
+      → Gives left_so made piece out piece' lent' out' (advanced ended (playing study log (take held piece)))
   unfolding advanced
   advances study log held o e g k keeps =
       let same_bytes : take held piece ≡ take end piece = rw (e, take_min) in

@@ -85,13 +85,15 @@ playing s log bytes = record { world = s.world; counts = s.counts; log = log; by
 abbrev pub fresh : Study
 fresh = record { world = empty_world; counts = no_counts; over = false }
 
--- what the code gives: the study, the log, the bytes that are kept at the piece's start, the text at the buffer's start
-pub record Gives (a : Advanced) (piece out piece' lent' out' : List ℕ) (p : Playing) : Type 0 where
-  pub world : a.study.world ≡ p.world
-  pub counts : a.study.counts ≡ p.counts
-  pub over : a.study.over ≡ p.over
+abbrev pub study_of : Playing → Study
+study_of p = record { world = p.world; counts = p.counts; over = p.over }
+
+-- what the code gives: the study that it was lent, the log, the bytes that are kept at the piece's start, the text at the buffer's start
+pub record Gives (study' : Study) (a : Advanced) (piece out piece' lent' out' : List ℕ) (p : Playing) : Type 0 where
+  pub study : study' ≡ study_of p
   pub log : lent' ≡ p.log
   pub kept : Wrote piece 0 p.bytes piece' a.held
   pub text : Wrote out 0 p.text out' a.at
-  -- nothing of the text is lost
-  pub fits : length p.text ≤ length out
+  -- nothing of these is lost
+  pub kept_fits : length p.bytes ≤ length piece
+  pub text_fits : length p.text ≤ length out

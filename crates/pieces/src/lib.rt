@@ -25,12 +25,11 @@ pub struct Study {
     pub over: bool,
 }
 
-// The study after what was at hand, how many bytes of it are kept at the piece's start, and how many bytes of text stand at the buffer's.
+// What is left of what was at hand: how many bytes of it are kept at the piece's start, and how many bytes of text stand at the buffer's.
 // Stays: counts beside the buffers. The arrays' types hold the lengths that the promise needs; a `Writer` lends a slice of any length, and a `Vec` may
 // find no memory.
 #[derive(Clone, Copy)]
 pub struct Advanced {
-    pub study: Study,
     pub held: usize,
     pub at: usize,
 }
@@ -101,8 +100,8 @@ fn play_bytes(
 
 // The end of the tape, where the input ended and so many bytes are left: the report, or a refusal. Answers whether the study is over.
 #[tactic(auto, using(crate::proofs::Going::at_end_lem, crate::proofs::Going::not_at_end))]
-fn close(study: Study, ended: bool, left: usize, out: &mut Text) -> bool
-    ensures { Closes study ended left out.old result out.new }
+fn close(study: &Study, ended: bool, left: usize, out: &mut Text) -> bool
+    ensures { Closes study.now ended left out.old result out.new }
 {
     if ended & (!study.over & ((left / 4 == 0) & (out.at < 32768))) {
         finish(study.world, study.counts, left, out);
@@ -111,25 +110,24 @@ fn close(study: Study, ended: bool, left: usize, out: &mut Text) -> bool
     study.over
 }
 
-// What is done with the bytes at hand, the first `held` of the piece: their records, and at the input's end the report. The text stands at the start
-// of `out`; the bytes that no record used are moved to the piece's start.
+// What is done with the bytes at hand, the first `held` of the piece: their records, and at the input's end the report. The study is changed where it
+// lies. The text stands at the start of `out`; the bytes that no record used are moved to the piece's start.
 #[tactic(auto, using(crate::proofs::Sizes::taken_few))]
 pub fn advance(
-    mut study: Study,
+    study: &mut Study,
     piece: &mut [u8; 16384],
     held: usize,
     ended: bool,
     log: &mut [u32; 2048],
     out: &mut [u8; 65536],
 ) -> Advanced
-    ensures { Gives result piece.old out.old piece.new log.new out.new (advanced ended (playing study log.old (take held piece.old))) }
+    ensures { Gives study.new result piece.old out.old piece.new log.new out.new (advanced ended (playing study.old log.old (take held piece.old))) }
 {
     let end = held.min(piece.len());
     let mut text = Writer::new(out);
-    let used = 4 * play_bytes(&mut study, &piece[..end], ended, log, &mut text);
+    let used = 4 * play_bytes(study, &piece[..end], ended, log, &mut text);
     study.over = close(study, ended, end - used, &mut text);
     Advanced {
-        study,
         held: keep(piece, used, end),
         at: text.at,
     }

@@ -1,28 +1,27 @@
 -- A study at its input's end ends. Assumes nothing.
-use mathlib.Core.Path.{◌≡◌, refl, sym, ap, ◌∙◌}
+use mathlib.Core.Path.{◌≡◌, refl}
 use mathlib.Core.Logic.{◌⊎◌, inl, inr, ⊎_elim}
-use mathlib.Core.Bool.{Bool, true, false, not, ◌&&◌, ◌||◌, cond, or-true}
-use mathlib.Core.List.{List, [], ◌∷◌, ◌++◌, append-nil}
+use mathlib.Core.Bool.{Bool, true, false, not, cond, or-true}
+use mathlib.Core.List.{[]}
 use Prim.Native.Nat.{ℕ, zero, suc, ◌+◌, ◌*◌, ◌<◌, ◌≤◌}
 use native.Mathlib.Omega.{arith}
-use lib.Dec.{leb, ltb, eqb}
-use lib.ListN.{length, drop, length-drop, replicate}
-use borrow.Author.Tests.{ltb-false}
+use lib.Dec.{ltb}
+use lib.ListN.{length, drop, length-drop}
+use borrow.Author.Tests.{ltb-false, le-leb}
 use Rattle.record.specs.Record.{record_of, is_accepted, used_of}
-use Rattle.conditions.specs.Conditions.{Kept}
 use Rattle.study_text.specs.Text.{words_of}
-use Rattle.pieces.specs.Pieces.{Playing, next_record, goes, play_to, ends, closed, close, advanced}
+use Rattle.pieces.specs.Pieces.{Playing, next_record, ready, goes, play_to, ends, closed, close, advanced}
 use Rattle.pieces.proofs.Sizes.{words_few}
-use Rattle.pieces.proofs.Going.{play_stops}
-use Rattle.whole_tape.specs.WholeTape.{Round, given, emptied, round, after_rounds, Ends, GetsOn, InPieces, at_end}
-use Rattle.whole_tape.proofs.Joining.{kept, all_rounds, all_over}
+use Rattle.pieces.proofs.Going.{play_stops, words_of_count}
+use Rattle.study_step.specs.Step.{reads}
+use Rattle.whole_tape.proofs.Joining.{kept}
 
 -- ---- bytes only go, and what is over stays so
 
 goes_not : (ended : Bool) (p : Playing) → p.over ≡ true → goes ended p.over (length (words_of p.bytes)) (length p.text) ≡ false
 goes_not ended p o = rw o
 
-play_over : (n : ℕ) (ended : Bool) (p : Playing) → p.over ≡ true → play_to n ended p ≡ p
+pub play_over : (n : ℕ) (ended : Bool) (p : Playing) → p.over ≡ true → play_to n ended p ≡ p
 unfolding play_to
 play_over zero ended p o = refl
 play_over (suc n) ended p o = rw (goes_not ended p o)
@@ -48,13 +47,18 @@ close_bytes ended p = go (ends ended p.over (length (words_of p.bytes)) (length 
     go true = refl
     go false = refl
 
-close_over : (ended : Bool) (p : Playing) → p.over ≡ true → (close ended p).over ≡ true
+pub advanced_few : (ended : Bool) (p : Playing) → length (advanced ended p).bytes ≤ length p.bytes
+unfolding advanced
+advanced_few ended p = rw close_bytes (play_few (2 + length p.bytes) ended p)
+
+close_over : (ended : Bool) (p : Playing) → p.over ≡ true → close ended p ≡ p
 unfolding close
-close_over ended p o = go (ends ended p.over (length (words_of p.bytes)) (length p.text))
-  where
-    go : (b : Bool) → (cond b (closed p) p).over ≡ true
-    go true = refl
-    go false = o
+close_over true p o = rw o
+close_over false p o = refl
+
+pub advanced_over : (ended : Bool) (p : Playing) → p.over ≡ true → advanced ended p ≡ p
+unfolding advanced
+advanced_over ended p o = rw (play_over (2 + length p.bytes) ended p o) (close_over ended p o)
 
 -- ---- a record takes some bytes, or is refused
 
@@ -75,56 +79,41 @@ unfolding play_to
 played ended n p e =
     rw (e, close_bytes)
     (⊎_elim
-    (λ o. inl (close_over ended (play_to n ended (next_record p)) (ap (λ (q : Playing). q.over) (play_over n ended (next_record p) o) ∙ o)))
+    (λ o.
+    let same = play_over n ended (next_record p) o in
+    inl (rw (same, close_over ended (next_record p) o) o))
     (λ l. inr (omega (arith, l, play_few n ended (next_record p))))
     (next_goes p))
 
 two_more : (n : ℕ) → 2 + n ≡ suc (suc n)
 two_more n = omega arith
 
-pub gets_on_lem : GetsOn
-unfolding GetsOn advanced
-gets_on_lem ended p t o w = rw two_more (played ended (suc (length p.bytes)) p (rw (o, w, t)))
-
--- ---- at the input's end
-
-advanced_over : (ended : Bool) (p : Playing) → p.over ≡ true → (advanced ended p).over ≡ true
+gets_on : (ended : Bool) (p : Playing) → p.text ≡ [] → p.over ≡ false → ready ended (length (words_of p.bytes)) ≡ true
+    → ((advanced ended p).over ≡ true) ⊎ (length (advanced ended p).bytes < length p.bytes)
 unfolding advanced
-advanced_over ended p o = rw (play_over (2 + length p.bytes) ended p o) (close_over ended p o)
+gets_on ended p t o w = rw two_more (played ended (suc (length p.bytes)) p (rw (o, w, t)))
 
 -- no word is left: the report, or a refusal
 closes : (p : Playing) → p.text ≡ [] → p.over ≡ false → length (words_of p.bytes) ≡ 0 → (advanced true p).over ≡ true
 unfolding advanced close
 closes p t o e = rw (play_stops true (2 + length p.bytes) p (rw (o, e)), o, e, t)
 
-end_goes : (p : Playing) → p.text ≡ [] → ((advanced true p).over ≡ true) ⊎ (length (advanced true p).bytes < length p.bytes)
-unfolding GetsOn
-end_goes p t = go p.over refl (ltb 0 (length (words_of p.bytes))) refl
-  where
-    go : (o : Bool) → p.over ≡ o → (b : Bool) → ltb 0 (length (words_of p.bytes)) ≡ b → ((advanced true p).over ≡ true) ⊎ (length (advanced true p).bytes < length p.bytes)
-    go true o b e = inl (advanced_over true p o)
-    go false o true e = gets_on_lem true p t o (rw e (or-true (leb 69 (length (words_of p.bytes)))))
-    go false o false e = inl (closes p t o (omega (arith, ltb-false 0 (length (words_of p.bytes)) e)))
+-- where no more input is wanted, a record is used, or the study ends
+module _ (p : Playing) (none : p.text ≡ []) where
+  abbrev GetsOn : Bool → Type 0
+  GetsOn ended = ((advanced ended p).over ≡ true) ⊎ (length (advanced ended p).bytes < length p.bytes)
 
-over_stays : (p : Playing) (rs : List Round) → p.over ≡ true → (after_rounds p rs).over ≡ true
-unfolding after_rounds
-over_stays p [] o = o
-over_stays p (r ∷ rs) o = over_stays (emptied (round r p)) rs (advanced_over r.ended (given p r.bytes) o)
+  at_end : p.over ≡ false → (b : Bool) → ltb 0 (length (words_of p.bytes)) ≡ b → GetsOn true
+  at_end o true e = gets_on true p none o (rw (e, or-true))
+  at_end o false e = inl (closes p none o (omega (arith, ltb-false 0 (length (words_of p.bytes)) e)))
 
-pub ends_at : Ends
-unfolding Ends after_rounds
-ends_at p zero t h = absurd (omega arith)
-ends_at p (suc n) t h =
-    let q = round at_end p in
-    ⊎_elim
-    (λ o. over_stays (emptied q) (replicate n at_end) o)
-    (λ l. ends_at (emptied q) n refl (omega (arith, l, same p)))
-    (end_goes (given p []) t)
-  where
-    same : (p : Playing) → length (given p []).bytes ≡ length p.bytes
-    same p = ap length (append-nil p.bytes)
+  stands : (ended : Bool) → p.over ≡ false → reads ended (length p.bytes) ≡ false → GetsOn ended
+  stands true o e = at_end o (ltb 0 (length (words_of p.bytes))) refl
+  stands false o e = gets_on false p none o (rw (le-leb 69 (length (words_of p.bytes)) (omega (arith, words_of_count p.bytes, ltb-false (length p.bytes) 276 e))))
 
--- ---- the pieces come to the whole tape
-
-pub in_pieces : InPieces
-in_pieces = record { rounds = all_rounds; over = all_over; gets_on = gets_on_lem; ends = ends_at }
+  pub unasked : (ended : Bool) → reads ended (length p.bytes) ≡ false → GetsOn ended
+  unasked ended e = go p.over refl
+    where
+      go : (o : Bool) → p.over ≡ o → GetsOn ended
+      go true o = inl (rw (advanced_over ended p o) o)
+      go false o = stands ended o e

@@ -1,5 +1,5 @@
 -- What a record is read as depends on its own words alone. Assumes nothing.
-use mathlib.Core.Path.{◌≡◌, refl, sym, ap, ◌∙◌}
+use mathlib.Core.Path.{◌≡◌, refl}
 use mathlib.Core.Bool.{Bool, true, false, not, ◌&&◌, cond}
 use mathlib.Core.List.{List, [], ◌∷◌, ◌++◌}
 use Prim.Native.Nat.{ℕ, zero, suc, ◌+◌, ◌<◌, ◌≤◌}
@@ -11,8 +11,8 @@ use Rattle.world.specs.declared.refusal.Refusal.{Refusal}
 use Rattle.world.specs.declared.refusal.Refusal.TheVariants.{CutShort}
 use Rattle.layout.specs.declared.Fields.{Fields}
 use Rattle.tape_records.specs.declared.Read.{Read}
-use Rattle.std.specs.Prelude.{Result, Ok, Err}
-use Rattle.tape_records.specs.Answers.{Deed, answer}
+use Rattle.std.specs.Prelude.{Result, Err}
+use Rattle.tape_records.specs.Answers.{answer}
 use Rattle.tape.specs.Tape.{Kind, kind_in, kinds, record_of, decoded}
 use Rattle.tape_loads.specs.LoadRecords.{serves_count, serves_outside, serves_to, line_fields_outside, line_floats_outside, line_kind_of, line_record, stop_record, car_record, rider_record}
 use Rattle.tape_orders.specs.OrderRecords.{manual_speed_record, tick_record}

@@ -1,13 +1,13 @@
--- The pieces come to the whole tape. Assumes nothing.
-use mathlib.Core.Path.{◌≡◌, refl, sym, ap, ◌∙◌}
-use mathlib.Core.Bool.{Bool, true, false, not, ◌&&◌, ◌||◌, cond}
+-- What a study still prints is the same before and after what is done with the bytes at hand. Assumes nothing.
+use mathlib.Core.Path.{◌≡◌, refl, ap, ◌∙◌}
+use mathlib.Core.Bool.{Bool, true, false, not, cond}
 use mathlib.Core.List.{List, [], ◌∷◌, ◌++◌, append-nil, append_assoc}
 use Prim.Native.Nat.{ℕ, zero, suc, ◌+◌, ◌*◌, ◌<◌, ◌≤◌}
 use native.Mathlib.Omega.{arith}
-use lib.Dec.{leb, ltb, eqb}
+use lib.Dec.{leb, eqb}
 use lib.ListN.{length, drop, length-append, length-drop}
 use lib.Seq.{drop-append-le}
-use borrow.Author.Tests.{ltb-true, leb-true, eqb-true, eqb-false, ne_eqb, not-true}
+use borrow.Author.Tests.{ltb-true, leb-true, ne_eqb, not-true}
 use Rattle.world.specs.declared.World.{World}
 use Rattle.record.specs.Record.{Outcome, record_of, is_accepted, used_of}
 use Rattle.record.specs.Calls.{outcome}
@@ -18,12 +18,16 @@ use Rattle.conditions.proofs.Answering.{first_condition}
 use Rattle.report.specs.declared.Counts.{Counts}
 use Rattle.study_text.specs.Text.{word, words_of}
 use Rattle.play.specs.Play.{told, counts_after}
-use Rattle.pieces.specs.Pieces.{Playing, after, next_record, ready, has_room, goes, play_to, ends, closed, close, advanced, playing, fresh}
+use Rattle.pieces.specs.Pieces.{Playing, next_record, ready, goes, play_to, ends, closed, close, advanced}
 use Rattle.pieces.proofs.Sizes.{words_drop, words_few}
 use Rattle.laws.proofs.Bools.{and_left, and_right}
-use Rattle.whole_tape.specs.Study.{Made, made_first, unless_refused, made, goes_on, said, printed, study_text}
-use Rattle.whole_tape.specs.WholeTape.{Longest, still_prints, begun, Round, given, emptied, round, after_rounds, wrote_out, all_read, InOrder, Rounds, Over}
+use Rattle.whole_tape.specs.Study.{Made, made_first, unless_refused, made, goes_on, said, printed}
+use Rattle.whole_tape.specs.WholeTape.{Longest}
 use Rattle.whole_tape.proofs.Ignoring.{longest}
+
+-- what a study still prints, where these bytes are yet to come
+unfoldable pub still_prints : Playing → List ℕ → List ℕ
+still_prints p more = p.text ++ cond p.over [] (printed (suc (length (p.bytes ++ more))) p.world p.counts p.log (p.bytes ++ more))
 
 -- ---- words of joined bytes
 
@@ -163,55 +167,6 @@ close_prints ended p more h = go (ends ended p.over (length (words_of p.bytes)) 
         let none : eqb (length (words_of p.bytes)) 0 ≡ true = and_left (eqb (length (words_of p.bytes)) 0) _ (and_right (not p.over) _ k) in
         rw (h (and_left ended _ e), append-nil, stands, append-nil p.bytes, none)
 
-advanced_prints : (ended : Bool) (p : Playing) (more : List ℕ) → (ended ≡ true → more ≡ []) → still_prints (advanced ended p) more ≡ still_prints p more
+pub advanced_prints : (ended : Bool) (p : Playing) (more : List ℕ) → (ended ≡ true → more ≡ []) → still_prints (advanced ended p) more ≡ still_prints p more
 unfolding advanced
 advanced_prints ended p more h = close_prints ended (play_to (2 + length p.bytes) ended p) more h ∙ play_prints (2 + length p.bytes) ended p more h
-
--- ---- rounds
-
-given_prints : (p : Playing) (bytes more : List ℕ) → still_prints (given p bytes) more ≡ still_prints p (bytes ++ more)
-unfolding still_prints
-given_prints p bytes more = rw append_assoc
-
-emptied_prints : (p : Playing) (more : List ℕ) → p.text ++ still_prints (emptied p) more ≡ still_prints p more
-unfolding still_prints
-emptied_prints p more = refl
-
-rounds_print : (p : Playing) (rs : List Round) (more : List ℕ) → InOrder rs more → wrote_out p rs ++ still_prints (after_rounds p rs) more ≡ still_prints p (all_read rs ++ more)
-unfolding wrote_out after_rounds all_read InOrder
-rounds_print p [] more h = refl
-rounds_print p (r ∷ rs) more h =
-    let q = round r p in
-    rw (append_assoc, rounds_print (emptied q) rs more h.1, emptied_prints q (all_read rs ++ more))
-    (advanced_prints r.ended (given p r.bytes) (all_read rs ++ more) (λ e. rest_none r.bytes (all_read rs ++ more) (h.0 e))
-    ∙ given_prints p r.bytes (all_read rs ++ more)
-    ∙ ap (still_prints p) (sym (append_assoc r.bytes (all_read rs) more)))
-  where
-    rest_none : (a b : List ℕ) → a ++ b ≡ [] → b ≡ []
-    rest_none [] b e = e
-    rest_none (x ∷ a) b e = absurd (let z : ◌≡◌ {A = ℕ} 0 1 = cc in omega arith)
-
-begun_prints : (tape : List ℕ) → still_prints begun tape ≡ study_text tape
-unfolding still_prints study_text printed
-begun_prints tape = refl
-
-no_text : (p : Playing) (rs : List Round) → p.text ≡ [] → (after_rounds p rs).text ≡ []
-unfolding after_rounds
-no_text p [] e = e
-no_text p (r ∷ rs) e = no_text (emptied (round r p)) rs refl
-
-over_prints : (p : Playing) (more : List ℕ) → p.over ≡ true → p.text ≡ [] → still_prints p more ≡ []
-unfolding still_prints
-over_prints p more o t = rw (o, t)
-
-pub all_rounds : Rounds
-unfolding Rounds
-all_rounds rs more h = rounds_print begun rs more h ∙ begun_prints (all_read rs ++ more)
-
-pub all_over : Over
-unfolding Over
-all_over rs more h o =
-    sym (append-nil (wrote_out begun rs))
-    ∙ ap (λ (t : List ℕ). wrote_out begun rs ++ t) (sym (over_prints (after_rounds begun rs) more o (no_text begun rs refl)))
-    ∙ rounds_print begun rs more h
-    ∙ begun_prints (all_read rs ++ more)

@@ -1,9 +1,12 @@
 -- Document 01's tape, by computing: what the study prints of it.
-use Rattle.std.specs.Prelude.{◌≡◌, List, [], ◌∷◌, ◌++◌, ℕ, ◌/◌, ◌%◌, ◌^◌, length}
+use Rattle.std.specs.Prelude.{◌≡◌, true, List, [], ◌∷◌, ◌++◌, ℕ, ◌/◌, ◌%◌, ◌^◌, length}
 use Rattle.study_numbers.specs.NumberText.{text, newline}
 use Rattle.world.specs.World.{empty_world}
 use Rattle.whole_tape.specs.Study.{made_of, study_text}
 use Rattle.whole_tape.specs.Certified.{AllAccepted}
+use Rattle.study_step.specs.Step.{Reading, Read}
+use Rattle.study_step.specs.declared.Stream.TheVariants.{StandardOutput, StandardError}
+use Rattle.whole_tape.specs.WholeTape.{begun, after_rounds, written, InOrder, AsWanted}
 
 -- a word's bytes, the lowest first
 abbrev pub little_endian : List ℕ → List ℕ
@@ -44,3 +47,15 @@ pub record PaperCalls : Type 0 where
   pub ten : length (made_of (little_endian paper_tape)).calls ≡ 10
   pub accepted : AllAccepted empty_world (made_of (little_endian paper_tape)).calls
   pub none : (made_of (little_endian paper_tape)).left ≡ []
+
+-- the program's rounds: a read of all of it, then one at its end
+abbrev pub paper_reads : List Reading
+paper_reads = Read (little_endian paper_tape) ∷ Read [] ∷ []
+
+-- they are as `InPieces` has them, and after them the program is over, with all of the output written and nothing on standard error
+pub record PaperRounds : Type 0 where
+  pub in_order : InOrder paper_reads []
+  pub as_wanted : AsWanted begun paper_reads
+  pub over : (after_rounds begun paper_reads).study.over ≡ true
+  pub output : written StandardOutput begun paper_reads ≡ paper_output
+  pub error : written StandardError begun paper_reads ≡ []

@@ -2,7 +2,7 @@
 use Rattle.std.specs.Prelude.{cond, List, [], ◌∷◌, ◌++◌, ℕ, zero, suc, ◌*◌, eqb, length, drop, replicate, Ok, Err}
 use Rattle.world.specs.World.{empty_world}
 use Rattle.world.specs.declared.World.{World}
-use Rattle.record.specs.Record.{Outcome, record_of, used_of}
+use Rattle.record.specs.Record.{record_of, used_of}
 use Rattle.record.specs.Calls.{Call, outcome}
 use Rattle.record.specs.Record.{Answer}
 use Rattle.report.specs.Report.{no_counts}

@@ -1,10 +1,12 @@
--- The pieces come to the whole tape.
-use Rattle.std.specs.Prelude.{◌≡◌, ◌⊎◌, Bool, true, false, cond, List, [], ◌∷◌, ◌++◌, ℕ, suc, ◌<◌, ◌≤◌, length, replicate, Err}
+-- What the study's program writes, round after round, comes to the whole tape's text.
+use Rattle.std.specs.Prelude.{◌≡◌, Bool, true, false, List, [], ◌∷◌, ◌++◌, ℕ, ◌+◌, ◌*◌, ◌≤◌, length, replicate, Err}
 use Rattle.world.specs.declared.refusal.Refusal.TheVariants.{CutShort}
 use Rattle.tape.specs.Tape.{decoded}
-use Rattle.study_text.specs.Text.{words_of}
-use Rattle.pieces.specs.Pieces.{Playing, ready, advanced, playing, fresh}
-use Rattle.whole_tape.specs.Study.{printed, study_text}
+use Rattle.study_step.specs.Step as Step
+use Rattle.study_step.specs.Step.{Reading, Read, Failed, Unasked, Running, running, reads, stepped}
+use Rattle.study_step.specs.declared.Stream.{Stream}
+use Rattle.study_step.specs.declared.Stream.TheVariants.{StandardOutput, StandardError}
+use Rattle.whole_tape.specs.Study.{study_text}
 
 -- "Words after the record are ignored": what follows words that are not cut short changes nothing
 unfoldable pub Ignored : Type 0
@@ -14,70 +16,75 @@ Ignored = (ws vs : List ℕ) → (decoded ws ≡ Err CutShort → ⊥) → decod
 unfoldable pub Longest : Type 0
 Longest = (ws vs : List ℕ) → 69 ≤ length ws → decoded (ws ++ vs) ≡ decoded ws
 
--- what a study still prints, where these bytes are yet to come
-unfoldable pub still_prints : Playing → List ℕ → List ℕ
-still_prints p more = p.text ++ cond p.over [] (printed (suc (length (p.bytes ++ more))) p.world p.counts p.log (p.bytes ++ more))
+-- ---- the program's rounds, whose reads in turn gave this
 
--- the program begins so: nothing is read, and the log is all zeros
-abbrev pub begun : Playing
-begun = playing fresh (replicate 2048 0) []
+-- it begins so: nothing is read, and the log is all zeros
+abbrev pub begun : Running
+begun = running Step.begun (replicate 2048 0) []
 
--- a round: bytes are read, what is at hand is played, what was printed is written out. At the input's end nothing is read.
-pub record Round : Type 0 where
-  pub bytes : List ℕ
-  pub ended : Bool
+unfoldable pub after_rounds : Running → List Reading → Running
+after_rounds r [] = r
+after_rounds r (g ∷ gs) = after_rounds (stepped r g).next gs
 
-abbrev pub given : Playing → List ℕ → Playing
-given p bytes = record { world = p.world; counts = p.counts; log = p.log; bytes = p.bytes ++ bytes; text = p.text; over = p.over }
+-- what they write to a stream: of each round, its text if it goes there
+abbrev pub goes_to : Stream → Stream → List ℕ → List ℕ
+goes_to StandardOutput StandardOutput text = text
+goes_to StandardOutput StandardError text = []
+goes_to StandardError StandardOutput text = []
+goes_to StandardError StandardError text = text
 
-abbrev pub emptied : Playing → Playing
-emptied p = record { world = p.world; counts = p.counts; log = p.log; bytes = p.bytes; text = []; over = p.over }
+unfoldable pub written : Stream → Running → List Reading → List ℕ
+written to r [] = []
+written to r (g ∷ gs) = goes_to to (stepped r g).stream (stepped r g).text ++ written to (stepped r g).next gs
 
-abbrev pub round : Round → Playing → Playing
-round r p = advanced r.ended (given p r.bytes)
+-- ---- the tape that they read
 
--- the study after some rounds, and what they wrote out
-unfoldable pub after_rounds : Playing → List Round → Playing
-after_rounds p [] = p
-after_rounds p (r ∷ rs) = after_rounds (emptied (round r p)) rs
+abbrev pub bytes_of : Reading → List ℕ
+bytes_of (Read bytes) = bytes
+bytes_of Failed = []
+bytes_of Unasked = []
 
-unfoldable pub wrote_out : Playing → List Round → List ℕ
-wrote_out p [] = []
-wrote_out p (r ∷ rs) = (round r p).text ++ wrote_out (emptied (round r p)) rs
+-- what these reads gave, and then what is still to come
+unfoldable pub tape_of : List Reading → List ℕ → List ℕ
+tape_of [] more = more
+tape_of (g ∷ gs) more = bytes_of g ++ tape_of gs more
 
--- all that was read
-unfoldable pub all_read : List Round → List ℕ
-all_read [] = []
-all_read (r ∷ rs) = r.bytes ++ all_read rs
-
--- nothing comes after the input's end
-unfoldable pub InOrder : List Round → List ℕ → Type 0
+-- a read gives no byte at the end of the tape alone
+unfoldable pub InOrder : List Reading → List ℕ → Type 0
 InOrder [] more = Unit {0}
-InOrder (r ∷ rs) more = (r.ended ≡ true → r.bytes ++ (all_read rs ++ more) ≡ []) × InOrder rs more
+InOrder (g ∷ gs) more = (g ≡ Read [] → tape_of gs more ≡ []) × InOrder gs more
 
--- whatever the pieces, what was written out and what is still printed are the whole tape's text
-unfoldable pub Rounds : Type 0
-Rounds = (rs : List Round) (more : List ℕ) → InOrder rs more → wrote_out begun rs ++ still_prints (after_rounds begun rs) more ≡ study_text (all_read rs ++ more)
+-- the program reads in the rounds that want more input, and in no other
+abbrev pub is_read : Reading → Bool
+is_read (Read bytes) = true
+is_read Failed = true
+is_read Unasked = false
 
--- a study that is over has written it all, whatever else the input holds
+unfoldable pub AsWanted : Running → List Reading → Type 0
+AsWanted r [] = Unit {0}
+AsWanted r (g ∷ gs) = (is_read g ≡ reads r.ended (length r.kept)) × AsWanted (stepped r g).next gs
+
+-- ---- the claims
+
+pub record BeginningOf (whole part : List ℕ) : Type 0 where
+  pub rest : List ℕ
+  pub joined : part ++ rest ≡ whole
+
+-- whatever the reads give, what was written to standard output is a beginning of the whole tape's text
+unfoldable pub Beginning : Type 0
+Beginning = (gs : List Reading) (more : List ℕ) → InOrder gs more → BeginningOf (study_text (tape_of gs more)) (written StandardOutput begun gs)
+
+-- it is all of it, whatever else the input holds, once the study is over with nothing on standard error
 unfoldable pub Over : Type 0
-Over = (rs : List Round) (more : List ℕ) → InOrder rs more → (after_rounds begun rs).over ≡ true → wrote_out begun rs ≡ study_text (all_read rs ++ more)
+Over = (gs : List Reading) (more : List ℕ) → InOrder gs more → (after_rounds begun gs).study.over ≡ true → written StandardError begun gs ≡ []
+    → written StandardOutput begun gs ≡ study_text (tape_of gs more)
 
--- with a record ready and an empty buffer, what is done uses a record, or ends the study
-unfoldable pub GetsOn : Type 0
-GetsOn = (ended : Bool) (p : Playing) → p.text ≡ [] → p.over ≡ false → ready ended (length (words_of p.bytes)) ≡ true
-    → ((advanced ended p).over ≡ true) ⊎ (length (advanced ended p).bytes < length p.bytes)
-
--- a round at the input's end
-abbrev pub at_end : Round
-at_end = record { bytes = []; ended = true }
-
--- at the input's end a study is over after as many rounds as it has bytes at hand, and one
+-- it is over after two rounds for each byte of the tape, and two
 unfoldable pub Ends : Type 0
-Ends = (p : Playing) (n : ℕ) → p.text ≡ [] → length p.bytes < n → (after_rounds p (replicate n at_end)).over ≡ true
+Ends = (gs : List Reading) (more : List ℕ) → InOrder gs more → AsWanted begun gs → 2 + 2 * length (tape_of gs more) ≤ length gs
+    → (after_rounds begun gs).study.over ≡ true
 
 pub record InPieces : Type 0 where
-  pub rounds : Rounds
+  pub beginning : Beginning
   pub over : Over
-  pub gets_on : GetsOn
   pub ends : Ends

@@ -6,12 +6,12 @@ ghost use Rattle.whole_tape.specs.WholeTape.{Ignored, Longest, InPieces};
 ghost use Rattle.whole_tape.specs.Certified.{Certified};
 ghost use Rattle.whole_tape.specs.NeverShort.{NeverShort};
 ghost use Rattle.whole_tape.specs.PrintedTotals.{PrintedTotals, OneByte};
-ghost use Rattle.whole_tape.specs.Example.{PaperTape, PaperCalls};
+ghost use Rattle.whole_tape.specs.Example.{PaperTape, PaperCalls, PaperRounds};
 
 // Carries the claims.
-#[tactic(auto, using(crate::proofs::Ignoring::ignored, crate::proofs::Ignoring::longest, crate::proofs::Joining::all_rounds, crate::proofs::Joining::all_over, crate::proofs::Ending::gets_on_lem, crate::proofs::Ending::ends_at, crate::proofs::Certifying::certified, crate::proofs::Computed::paper_tape_lem, crate::proofs::Computed::paper_calls))]
+#[tactic(auto, using(crate::proofs::Ignoring::ignored, crate::proofs::Ignoring::longest, crate::proofs::Rounds::in_pieces, crate::proofs::Certifying::certified, crate::proofs::Computed::paper_tape_lem, crate::proofs::Computed::paper_calls, crate::proofs::Computed::paper_rounds))]
 pub fn whole_tape() -> bool
-    ensures { (result ≡ true) × Ignored × Longest × InPieces × Certified × PaperTape × PaperCalls }
+    ensures { (result ≡ true) × Ignored × Longest × InPieces × Certified × PaperTape × PaperCalls × PaperRounds }
 {
     true
 }

@@ -9,10 +9,10 @@ returns c =
     let m = c.min-end in
     let w = c.new-text in
     let r = c.play_bytes-used in
-    let k = c.close in
+    let k = c.close-study in
     let t = c.keep in
     advances a.piece.now a.out.now r.new.log _ t.new.bytes w.result r.new.out k.new.out w.ensures.items w.ensures.at (search rules) m.result a.ended r.new.study r.result k.result t.result
-    a.study
+    a.study.now
     a.log.now
     a.held
     c.told-out

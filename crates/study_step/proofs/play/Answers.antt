@@ -1,0 +1,27 @@
+-- `study_step::play` meets its contract. Assumes nothing.
+use Rattle.std.proofs.Common.{◌≡◌, ℕ, List, ◌+◌, min, length, take, sym, refl, ap, ◌∙◌, arith}
+use Rattle.log_writes.proofs.Writing.{wrote_taken}
+use Rattle.study_text.proofs.Keeping.{take_min}
+use Rattle.study_step.proofs.AtHand.{leaves}
+use Rattle.pieces.specs.declared.Study.{Study}
+use Rattle.study_step.proofs.play.Goals as goal
+
+-- no place is past the piece's end
+same_bytes : (piece : List ℕ) (m n : ℕ) → min m (length piece) ≡ min n (length piece) → take m piece ≡ take n piece
+same_bytes piece m n e = sym (take_min m piece) ∙ ap (λ (k : ℕ). take k piece) e ∙ take_min n piece
+
+pub returns : goal.returns
+returns c =
+    let a = c.args in
+    let n = a.run.now.held + a.count in
+    let end = c.saturating_add-end.result in
+    let cut : min end (length a.piece.now) ≡ min n (length a.piece.now) = omega (arith, c.saturating_add-end.ensures, c.told-piece) in
+    let g = rw (same_bytes a.piece.now end n cut) at c.advance-made.ensures in
+    record {
+      next = leaves g.study g.log (wrote_taken g.kept g.kept_fits);
+      kept = g.kept;
+      text = g.text;
+      fits = g.text_fits;
+      stream = refl;
+      over = ap (λ (s : Study). s.over) g.study;
+    }

@@ -1,0 +1,94 @@
+-- A step of the study's program: all that it does between a read and a write.
+use Rattle.std.specs.Prelude.{◌≡◌, Bool, true, false, not, ◌&&◌, ◌||◌, List, ◌++◌, ℕ, ◌≤◌, ltb, eqb, length, take, drop, Result, Ok, Err}
+use Rattle.log_writes.specs.Log.{Wrote}
+use Rattle.study_numbers.specs.NumberText.{text, newline}
+use Rattle.pieces.specs.Pieces.{advanced, playing, study_of, fresh}
+use Rattle.pieces.specs.declared.Study.{Study}
+use Rattle.study_step.specs.declared.Got.{Got}
+use Rattle.study_step.specs.declared.Got.TheVariants.{Bytes, Failure, Nothing}
+use Rattle.study_step.specs.declared.Output.{Output}
+use Rattle.study_step.specs.declared.Run.{Run}
+use Rattle.study_step.specs.declared.Stream.{Stream}
+use Rattle.study_step.specs.declared.Stream.TheVariants.{StandardOutput, StandardError}
+
+-- ---- what a read gave
+
+pub data Reading : Type 0 where
+  -- these bytes; none at the input's end
+  Read : List ℕ → Reading
+  Failed : Reading
+  -- nothing was to be read in this round
+  Unasked : Reading
+
+-- ---- the program between two rounds
+
+pub record Running : Type 0 where
+  pub study : Study
+  -- as the last record's call left it
+  pub log : List ℕ
+  -- the bytes read that no record has used yet
+  pub kept : List ℕ
+  pub ended : Bool
+
+-- more input is wanted where the kept bytes may end within a record, which has 69 words at most
+abbrev pub reads : Bool → ℕ → Bool
+reads ended kept = not ended && ltb kept 276
+
+-- a round leaves this, and writes this text there
+pub record Stepped : Type 0 where
+  pub next : Running
+  pub stream : Stream
+  pub text : List ℕ
+
+-- what can be done with these bytes is done: "It keeps one world and lends it to each record's call"
+abbrev pub played : Study → List ℕ → List ℕ → Bool → Stepped
+played s log bytes ended =
+    let p = advanced ended (playing s log bytes) in
+    record { next = record { study = study_of p; log = p.log; kept = p.bytes; ended = ended }; stream = StandardOutput; text = p.text }
+
+abbrev pub cannot_read : List ℕ
+cannot_read = text "study: cannot read standard input" ++ newline
+
+-- a read that fails is not the input's end: nothing follows it but this line, no report
+abbrev pub failed : Running → Stepped
+failed r = record {
+  next = record { study = record { world = r.study.world; counts = r.study.counts; over = true }; log = r.log; kept = r.kept; ended = r.ended };
+  stream = StandardError;
+  text = cannot_read;
+}
+
+-- a round: the bytes that were read come behind those that were kept. A read of no byte is the input's end.
+unfoldable pub stepped : Running → Reading → Stepped
+stepped r (Read bytes) = played r.study r.log (r.kept ++ bytes) (r.ended || eqb (length bytes) 0)
+stepped r Unasked = played r.study r.log r.kept r.ended
+stepped r Failed = failed r
+
+-- ---- in the code: the first `held` bytes of the piece are kept, and the bytes that were read stand behind them, as many as there is room for
+
+abbrev pub running : Run → List ℕ → List ℕ → Running
+running r log piece = record { study = r.study; log = log; kept = take r.held piece; ended = r.ended }
+
+abbrev pub got_of : {E : Type 0} → Result ℕ E → Got
+got_of (Ok n) = Bytes n
+got_of (Err e) = Failure
+
+abbrev pub reading : Got → ℕ → List ℕ → Reading
+reading (Bytes n) held piece = Read (take n (drop held piece))
+reading Failure held piece = Failed
+reading Nothing held piece = Unasked
+
+-- nothing is read yet
+abbrev pub begun : Run
+begun = record { study = fresh; held = 0; ended = false }
+
+-- what the code gives
+pub record Steps (run' : Run) (o : Output) (piece out piece' lent' out' : List ℕ) (s : Stepped) : Type 0 where
+  -- the next round begins with what this one leaves
+  pub next : running run' lent' piece' ≡ s.next
+  -- the kept bytes at the piece's start, the text at the buffer's, and what stands behind them stays
+  pub kept : Wrote piece 0 s.next.kept piece' run'.held
+  pub text : Wrote out 0 s.text out' o.count
+  -- nothing of the text is lost
+  pub fits : length s.text ≤ length out
+  pub stream : o.stream ≡ s.stream
+  pub over : o.over ≡ s.next.study.over

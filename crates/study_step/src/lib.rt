@@ -1,0 +1,134 @@
+// A step of the study's program: all that it does between a read and a write.
+#![tactic(auto)]
+
+ghost use Rattle.std.specs.Prelude.{◌≡◌, ◌+◌, take, cond, Some, None};
+ghost use Rattle.log_writes.specs.Log.{Wrote};
+ghost use Rattle.study_step.specs.Step.{got_of, Steps, begun, stepped, played, cannot_read, running, reading};
+ghost use Rattle.study_step.specs.Step.{reads as wants};
+
+use log_writes::Writer;
+use pieces::{Study, advance};
+use std::io;
+
+// A run of the study: how many bytes of the piece are kept, at its start, and whether the input ended.
+#[derive(Clone, Copy)]
+pub struct Run {
+    pub study: Study,
+    pub held: usize,
+    pub ended: bool,
+}
+
+// What a read gave: so many bytes behind those that are kept, none at the input's end. Or nothing was to be read.
+#[derive(Clone, Copy)]
+pub enum Got {
+    Bytes(usize),
+    Failure,
+    Nothing,
+}
+
+impl From<io::Result<usize>> for Got {
+    ghost from_gives = { λ read got. got ≡ got_of read };
+
+    fn from(read: io::Result<usize>) -> Got {
+        match read {
+            Ok(count) => Got::Bytes(count),
+            Err(_) => Got::Failure,
+        }
+    }
+}
+
+#[derive(Clone, Copy)]
+pub enum Stream {
+    StandardOutput,
+    StandardError,
+}
+
+// What is to be written: so many bytes from the buffer's start on. And whether the study is over then.
+#[derive(Clone, Copy)]
+pub struct Output {
+    pub stream: Stream,
+    pub count: usize,
+    pub over: bool,
+}
+
+// A run of which nothing is read yet.
+// Stays: a function and no Default, as `world::empty` is.
+pub fn begin() -> Run
+    ensures { result ≡ begun }
+{
+    Run {
+        study: pieces::begin(),
+        held: 0,
+        ended: false,
+    }
+}
+
+// Where in the piece the next round's read puts its bytes, if it makes one.
+pub fn reads(run: &Run) -> Option<usize>
+    ensures { result ≡ cond (wants run.now.ended run.now.held) (Some run.now.held) None }
+{
+    if !run.ended & (run.held < 276) {
+        Some(run.held)
+    } else {
+        None
+    }
+}
+
+// The line for a read that failed. Answers its length.
+fn put_failure(out: &mut [u8; 65536]) -> usize
+    ensures { Wrote out.old 0 cannot_read out.new result }
+{
+    let mut text = Writer::new(out);
+    text.put_all(b"study: cannot read standard input\n");
+    text.at
+}
+
+// What can be done with the kept bytes and so many behind them.
+fn play(
+    run: &mut Run,
+    piece: &mut [u8; 16384],
+    count: usize,
+    log: &mut [u32; 2048],
+    out: &mut [u8; 65536],
+) -> Output
+    ensures { Steps run.new result piece.old out.old piece.new log.new out.new (played run.old.study log.old (take (run.old.held + count) piece.old) run.old.ended) }
+{
+    let end = run.held.saturating_add(count);
+    let made = advance(&mut run.study, piece, end, run.ended, log, out);
+    run.held = made.held;
+    Output {
+        stream: Stream::StandardOutput,
+        count: made.at,
+        over: run.study.over,
+    }
+}
+
+// A round between its read and its write. Of the bytes that it is told were read, no more count than there is room for.
+pub fn step(
+    run: &mut Run,
+    piece: &mut [u8; 16384],
+    got: Got,
+    log: &mut [u32; 2048],
+    out: &mut [u8; 65536],
+) -> Output
+    ensures { Steps run.new result piece.old out.old piece.new log.new out.new (stepped (running run.old log.old piece.old) (reading got run.old.held piece.old)) }
+{
+    match got {
+        Got::Bytes(count) => {
+            let room = piece.len().saturating_sub(run.held);
+            let count = count.min(room);
+            run.ended = run.ended | (count == 0);
+            play(run, piece, count, log, out)
+        }
+        Got::Nothing => play(run, piece, 0, log, out),
+        Got::Failure => {
+            run.study.over = true;
+            run.held = run.held.min(piece.len());
+            Output {
+                stream: Stream::StandardError,
+                count: put_failure(out),
+                over: true,
+            }
+        }
+    }
+}
