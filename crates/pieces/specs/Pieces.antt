@@ -88,7 +88,8 @@ fresh = record { world = empty_world; counts = no_counts; over = false }
 abbrev pub study_of : Playing → Study
 study_of p = record { world = p.world; counts = p.counts; over = p.over }
 
--- what the code gives: the study that it was lent, the log, the bytes that are kept at the piece's start, the text at the buffer's start
+-- what the code gives: the study and the log that it was lent, the bytes that are kept at the piece's start, the text at
+-- the buffer's start
 pub record Gives (study' : Study) (a : Advanced) (piece out piece' lent' out' : List ℕ) (p : Playing) : Type 0 where
   pub study : study' ≡ study_of p
   pub log : lent' ≡ p.log

@@ -25,7 +25,7 @@ pub struct Study {
     pub over: bool,
 }
 
-// What is left of what was at hand: how many bytes of it are kept at the piece's start, and how many bytes of text stand at the buffer's.
+// How many bytes of what was at hand are kept at the piece's start, and how many bytes of text stand at the buffer's.
 // Stays: counts beside the buffers. The arrays' types hold the lengths that the promise needs; a `Writer` lends a slice of any length, and a `Vec` may
 // find no memory.
 #[derive(Clone, Copy)]
@@ -110,8 +110,9 @@ fn close(study: &Study, ended: bool, left: usize, out: &mut Text) -> bool
     study.over
 }
 
-// What is done with the bytes at hand, the first `held` of the piece: their records, and at the input's end the report. The study is changed where it
-// lies. The text stands at the start of `out`; the bytes that no record used are moved to the piece's start.
+// What is done with the bytes at hand, the first `held` of the piece: their records, and at the input's end the report.
+// The study is changed where it lies. The text stands at the start of `out`; the bytes that no record used are moved to
+// the piece's start.
 #[tactic(auto, using(crate::proofs::Sizes::taken_few))]
 pub fn advance(
     study: &mut Study,
@@ -121,7 +122,8 @@ pub fn advance(
     log: &mut [u32; 2048],
     out: &mut [u8; 65536],
 ) -> Advanced
-    ensures { Gives study.new result piece.old out.old piece.new log.new out.new (advanced ended (playing study.old log.old (take held piece.old))) }
+    ensures { Gives study.new result piece.old out.old piece.new log.new out.new
+        (advanced ended (playing study.old log.old (take held piece.old))) }
 {
     let end = held.min(piece.len());
     let mut text = Writer::new(out);

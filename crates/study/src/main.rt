@@ -1,14 +1,15 @@
-// The study: a tape on standard input, its log words and the report on standard output. What a round does is `study_step`'s matter; here the input is
-// read and the text written out. Of the input only what no record has used yet is kept, so that a tape may have any length.
+// The study: a tape on standard input, its log words and the report on standard output. What a round does is
+// `study_step`'s matter; here the input is read and the text written out. Of the input only what no record has used yet
+// is kept, so that a tape may have any length.
 #![tactic(auto)]
 
 use std::io::{self, Read, Write};
 use std::process::ExitCode;
 use study_step::{Got, Stream, begin, reads, step};
 
-// All rounds. Answers the last one's output. None follows the report, a refusal or a read that failed. No run makes more.
-// Stays: a `for` to a count that no run reaches. Each loop is proved to end, and nobody knows how long the input is: a `loop` would need the same count
-// beside it, with its test and its step.
+// All rounds, to the one after which the study is over. Answers where that one wrote.
+// Stays: a `for` to a count that no run reaches. Each loop is proved to end, and nobody knows how long the input is: a
+// `loop` would need the same count beside it, with its test and its step.
 fn run<R: Read, W: Write, E: Write>(
     source: &mut R,
     output: &mut W,

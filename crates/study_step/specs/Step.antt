@@ -44,7 +44,11 @@ pub record Stepped : Type 0 where
 abbrev pub played : Study → List ℕ → List ℕ → Bool → Stepped
 played s log bytes ended =
     let p = advanced ended (playing s log bytes) in
-    record { next = record { study = study_of p; log = p.log; kept = p.bytes; ended = ended }; stream = StandardOutput; text = p.text }
+    record {
+      next = record { study = study_of p; log = p.log; kept = p.bytes; ended = ended };
+      stream = StandardOutput;
+      text = p.text;
+    }
 
 abbrev pub cannot_read : List ℕ
 cannot_read = text "study: cannot read standard input" ++ newline
@@ -52,7 +56,12 @@ cannot_read = text "study: cannot read standard input" ++ newline
 -- a read that fails is not the input's end: nothing follows it but this line, no report
 abbrev pub failed : Running → Stepped
 failed r = record {
-  next = record { study = record { world = r.study.world; counts = r.study.counts; over = true }; log = r.log; kept = r.kept; ended = r.ended };
+  next = record {
+    study = record { world = r.study.world; counts = r.study.counts; over = true };
+    log = r.log;
+    kept = r.kept;
+    ended = r.ended;
+  };
   stream = StandardError;
   text = cannot_read;
 }
@@ -63,7 +72,8 @@ stepped r (Read bytes) = played r.study r.log (r.kept ++ bytes) (r.ended || eqb 
 stepped r Unasked = played r.study r.log r.kept r.ended
 stepped r Failed = failed r
 
--- ---- in the code: the first `held` bytes of the piece are kept, and the bytes that were read stand behind them, as many as there is room for
+-- ---- in the code: the first `held` bytes of the piece are kept, and those that were read stand behind them, as many as
+-- there is room for
 
 abbrev pub running : Run → List ℕ → List ℕ → Running
 running r log piece = record { study = r.study; log = log; kept = take r.held piece; ended = r.ended }

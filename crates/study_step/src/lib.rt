@@ -10,7 +10,7 @@ use log_writes::Writer;
 use pieces::{Study, advance};
 use std::io;
 
-// A run of the study: how many bytes of the piece are kept, at its start, and whether the input ended.
+// A run of the study: how many bytes are kept at the piece's start, and whether the input ended.
 #[derive(Clone, Copy)]
 pub struct Run {
     pub study: Study,
@@ -91,7 +91,8 @@ fn play(
     log: &mut [u32; 2048],
     out: &mut [u8; 65536],
 ) -> Output
-    ensures { Steps run.new result piece.old out.old piece.new log.new out.new (played run.old.study log.old (take (run.old.held + count) piece.old) run.old.ended) }
+    ensures { Steps run.new result piece.old out.old piece.new log.new out.new
+        (played run.old.study log.old (take (run.old.held + count) piece.old) run.old.ended) }
 {
     let end = run.held.saturating_add(count);
     let made = advance(&mut run.study, piece, end, run.ended, log, out);
@@ -103,7 +104,7 @@ fn play(
     }
 }
 
-// A round between its read and its write. Of the bytes that it is told were read, no more count than there is room for.
+// A round between its read and its write. Of the bytes that it is told of, no more count than there was room for.
 pub fn step(
     run: &mut Run,
     piece: &mut [u8; 16384],
@@ -111,7 +112,8 @@ pub fn step(
     log: &mut [u32; 2048],
     out: &mut [u8; 65536],
 ) -> Output
-    ensures { Steps run.new result piece.old out.old piece.new log.new out.new (stepped (running run.old log.old piece.old) (reading got run.old.held piece.old)) }
+    ensures { Steps run.new result piece.old out.old piece.new log.new out.new
+        (stepped (running run.old log.old piece.old) (reading got run.old.held piece.old)) }
 {
     match got {
         Got::Bytes(count) => {

@@ -52,7 +52,8 @@ pub record PaperCalls : Type 0 where
 abbrev pub paper_reads : List Reading
 paper_reads = Read (little_endian paper_tape) ∷ Read [] ∷ []
 
--- they are as `InPieces` has them, and after them the program is over, with all of the output written and nothing on standard error
+-- they are as `InPieces` has them; after them the program is over, all of the output is written, and nothing on standard
+-- error
 pub record PaperRounds : Type 0 where
   pub in_order : InOrder paper_reads []
   pub as_wanted : AsWanted begun paper_reads

@@ -72,17 +72,19 @@ pub record BeginningOf (whole part : List ℕ) : Type 0 where
 
 -- whatever the reads give, what was written to standard output is a beginning of the whole tape's text
 unfoldable pub Beginning : Type 0
-Beginning = (gs : List Reading) (more : List ℕ) → InOrder gs more → BeginningOf (study_text (tape_of gs more)) (written StandardOutput begun gs)
+Beginning = (gs : List Reading) (more : List ℕ) → InOrder gs more
+    → BeginningOf (study_text (tape_of gs more)) (written StandardOutput begun gs)
 
 -- it is all of it, whatever else the input holds, once the study is over with nothing on standard error
 unfoldable pub Over : Type 0
-Over = (gs : List Reading) (more : List ℕ) → InOrder gs more → (after_rounds begun gs).study.over ≡ true → written StandardError begun gs ≡ []
+Over = (gs : List Reading) (more : List ℕ) → InOrder gs more
+    → (after_rounds begun gs).study.over ≡ true → written StandardError begun gs ≡ []
     → written StandardOutput begun gs ≡ study_text (tape_of gs more)
 
 -- it is over after two rounds for each byte of the tape, and two
 unfoldable pub Ends : Type 0
-Ends = (gs : List Reading) (more : List ℕ) → InOrder gs more → AsWanted begun gs → 2 + 2 * length (tape_of gs more) ≤ length gs
-    → (after_rounds begun gs).study.over ≡ true
+Ends = (gs : List Reading) (more : List ℕ) → InOrder gs more → AsWanted begun gs
+    → 2 + 2 * length (tape_of gs more) ≤ length gs → (after_rounds begun gs).study.over ≡ true
 
 pub record InPieces : Type 0 where
   pub beginning : Beginning

@@ -1,0 +1,12 @@
+-- `study_step::begin` meets its contract. Assumes nothing.
+use Rattle.std.proofs.Common.{ap, false}
+use Rattle.pieces.specs.declared.Study.{Study}
+use Rattle.study_step.specs.declared.Run.{Run}
+use Rattle.study_step.proofs.begin.Goals as goal
+
+start : Study → Run
+start s = record { study = s; held = 0; ended = false }
+
+pub returns : goal.returns
+unfolding start
+returns c = ap start c.begin.ensures
