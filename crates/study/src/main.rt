@@ -46,10 +46,10 @@ fn main(rt: HostRuntime) -> ExitCode {
     let mut error = rt.stderr();
     match run(&mut source, &mut output, &mut error) {
         Ok(Stream::StandardOutput) => ExitCode::SUCCESS,
-        Ok(Stream::StandardError) => ExitCode::FAILURE,
+        Ok(Stream::StandardError) => ExitCode::from(2),
         Err(_) => {
             let _ = eprintln!(rt; "study: cannot write standard output");
-            ExitCode::FAILURE
+            ExitCode::from(2)
         }
     }
 }
