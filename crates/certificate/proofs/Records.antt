@@ -15,7 +15,7 @@ use Rattle.door.specs.Door.{is_closed}
 use Rattle.door.specs.declared.DoorState.{DoorState}
 use Rattle.door.specs.declared.DoorState.TheVariants.{Closed}
 use Rattle.world.specs.World.{car_at, no_car, new_car}
-use Rattle.world.specs.With.{with_car, with_cars}
+use Rattle.world.specs.With.{with_car}
 use Rattle.world.specs.Tables.{with_item}
 use Rattle.sound_rows.specs.Rows.{unloaded}
 use Rattle.sound.specs.Sound.{broken}
@@ -206,11 +206,11 @@ module _ (w : World) (c : Call) (j : List ℕ) (h : Sums w j) (used : ℕ) where
       → Gives w c j (changed w c.log used (load_car w number plan))
   unfolding load_car
   car_kept number plan t =
-      plain (Loads.car_checks w number plan) (with_cars w (with_item w.cars number (new_car plan) (number + 1))) t
+      plain (Loads.car_checks w number plan) (Loads.with_new_car w number plan) t
       (λ q e. new (eqb-true number w.cars.count (not-false (eqb number w.cars.count) (or_right (leb 16 number) (not (eqb number w.cars.count)) q.1.0)))
       (leb-false 16 number (or_left (leb 16 number) (not (eqb number w.cars.count)) q.1.0)))
     where
-      new : number ≡ w.cars.count → number < 16 → Quiet (with_cars w (with_item w.cars number (new_car plan) (number + 1)))
+      new : number ≡ w.cars.count → number < 16 → Quiet (Loads.with_new_car w number plan)
       new q l =
           let inside : w.cars.count < length w.cars.items = omega (arith, q, l, h.full) in
           rw q (sum_new (new_car plan) h inside refl, λ n k p. held_new (new_car plan) k inside (record { sound = idle; tame = refl }))

@@ -1,6 +1,5 @@
 -- What the state says of a record: a refusal, or the world after it. Kind D, the start.
 use Rattle.std.specs.Prelude.{Result, Ok, Err, Bool, true, not, ◌||◌, List, [], ◌∷◌, ℕ, leb, eqb}
-use Rattle.world.specs.With.{with_plan}
 use Rattle.sound_rows.specs.Rows.{unloaded}
 use Rattle.world.specs.Refusal.{Check, check, unless}
 use Rattle.world.specs.declared.World.{World}
@@ -24,7 +23,7 @@ abbrev pub start_checks : World → List Check
 start_checks w = check NotNow w.started ∷ []
 
 abbrev pub with_start : World → World
-with_start w = with_plan w w.stops w.lines true
+with_start w = record w { started = true }
 
 unfoldable pub start : World → Changed
 start w = unless (start_checks w) Err (Ok (with_start w))

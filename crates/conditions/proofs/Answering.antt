@@ -10,9 +10,8 @@ use lib.ListN.{length, get_or}
 use lib.Seq.{length-sets}
 use lib.Ieee.{Float}
 use borrow.Author.Tests.{ltb-false, eqb-false}
-use Rattle.world.specs.World.{car_at, new_car}
-use Rattle.world.specs.With.{with_car, with_cars}
-use Rattle.world.specs.Tables.{with_item}
+use Rattle.world.specs.World.{car_at}
+use Rattle.world.specs.With.{with_car}
 use Rattle.sound.specs.Sound.{broken}
 use Rattle.world.specs.Refusal.{Check, check, unless}
 use Rattle.world.specs.declared.World.{World}
@@ -28,7 +27,7 @@ use Rattle.tape_records.specs.declared.Found.{Found}
 use Rattle.tape_records.specs.declared.Record.{Record}
 use Rattle.tape_records.specs.declared.Record.TheVariants.{Line, Stop, Car, Rider, Send, Mode, ManualSpeed, DoorCommand, HallCall, Destination, Enable, Start}
 use Rattle.tape.proofs.Bounds.{in_bounds}
-use Rattle.loads.specs.Loads.{line_checks, with_line, load_line, stop_checks, with_stop, load_stop, car_checks, load_car, rider_checks, with_rider, load_rider}
+use Rattle.loads.specs.Loads.{line_checks, with_line, load_line, stop_checks, with_stop, load_stop, car_checks, with_new_car, load_car, rider_checks, with_rider, load_rider}
 use Rattle.changes.specs.Changes.{start_checks, with_start, start}
 use Rattle.changes.specs.Changes.{Changed}
 use Rattle.orders.specs.Orders.{send_checks, sent, send}
@@ -179,7 +178,7 @@ module _ (w : World) (words lent : List ℕ) where
   fine_taken used (Line number line) = some_fine (λ g. (g.0, g.1)) (fine_changed used (line_checks w number line) (with_line w number line))
   fine_taken used (Stop number position) = some_fine (λ g. (g.0, g.1)) (fine_changed used (stop_checks w number) (with_stop w number position))
   fine_taken used (Car number plan) =
-      some_fine (λ g. (g.0, g.1)) (fine_changed used (car_checks w number plan) (with_cars w (with_item w.cars number (new_car plan) (number + 1))))
+      some_fine (λ g. (g.0, g.1)) (fine_changed used (car_checks w number plan) (with_new_car w number plan))
   fine_taken used (Rider number rider) = some_fine (λ g. (g.0, g.1)) (fine_changed used (rider_checks w number rider) (with_rider w number rider))
   fine_taken used (Send car stop reposition) =
       some_fine (λ g. (g.0, g.1)) (fine_changed used (send_checks w car stop) (with_car w car (sent (car_at w.cars.items car) stop reposition)))

@@ -14,7 +14,6 @@ use Rattle.log_words.specs.Words.{word_of}
 use Rattle.log_writes.specs.Told.{Told, Log}
 use Rattle.log_words.specs.declared.Event.TheVariants.{DoorOpened, DoorClosed, ElevatorDeparted}
 use Rattle.steps.specs.Steps.{is_inspection, both_lit, unlit, update_indicators, not_opened}
-use Rattle.world.specs.With.{with_door}
 use Rattle.steps.specs.declared.JustOpened.{JustOpened}
 
 abbrev pub is_door_opening : ElevatorPhase → Bool
@@ -41,7 +40,7 @@ rests c = turned c [] not_opened
 
 -- the car with a phase and a door
 abbrev pub rested : Car → ElevatorPhase → DoorState → Car
-rested c phase door = with_door c phase door c.target_stop c.lamps c.going_forward c.door_command_queue
+rested c phase door = record c { phase = phase; door = door }
 
 -- run, FinishedOpening: what goes into just_opened
 abbrev pub opened_at : Option ℕ → Car → Option JustOpened
@@ -57,12 +56,12 @@ departed_from (Some s) i = word_of (ElevatorDeparted i s) ∷ []
 abbrev pub finished_closing : Option ℕ → ℕ → Car → Turn
 finished_closing (Some next) i c =
     turned
-    (with_door c (MovingToStop next) c.door (Some next) unlit true c.door_command_queue)
+    (record c { phase = MovingToStop next; target_stop = Some next; lamps = unlit; going_forward = true })
     (word_of (DoorClosed i) ∷ (update_indicators i c.lamps unlit ++ departed_from c.target_stop i))
     not_opened
 finished_closing None i c =
     turned
-    (with_door c Stopped c.door None both_lit c.going_forward c.door_command_queue)
+    (record c { phase = Stopped; target_stop = None; lamps = both_lit })
     (word_of (DoorClosed i) ∷ update_indicators i c.lamps both_lit)
     not_opened
 

@@ -12,7 +12,6 @@ use Rattle.std.proofs.lemmas.List.{length-replicate, length-set}
 use lib.Seq.{get_or-set_other, set-get_or}
 use borrow.Author.Tests.{eqb-true}
 use Rattle.world.specs.World.{car_at}
-use Rattle.world.specs.With.{with_people}
 use Rattle.world.specs.declared.World.{World}
 use Rattle.world.specs.declared.Car.{Car}
 use Rattle.world.specs.declared.Line.{Line}
@@ -25,7 +24,6 @@ use Rattle.log_writes.specs.Told.{Told, Log}
 use Rattle.log_writes.proofs.Telling.{told_none, told_also}
 use Rattle.steps.specs.Steps.{Step, line_of, not_opened, step_of, stepped, run_to, run_cars}
 use Rattle.steps.proofs.Cars.{by_turns, stepped_same}
-use Rattle.world.specs.With.{with_door}
 use Rattle.steps.specs.declared.JustOpened.{JustOpened}
 use Rattle.door_commands.specs.Commands.{at_stop, has_rider_traversing, unworked, commanded, Works, process_door_commands, command_words}
 use Rattle.doors_system.specs.Doors.{turn_by, door_turn, has_turn, turn_on, step_by, door_of, doored, cars_of, doors_world, doors_words}
@@ -161,7 +159,7 @@ pub ended : {world w : World} {l l' l'' : Log} {n : ℕ} {opened : List (Option 
     → n ≡ cars_of world
     → calls ≡ world.calls
     → Clears (clear_to (take n opened) calls (min (length (take n opened)) 16)) (clear_words_to (take n opened) calls (min (length (take n opened)) 16)) l' l'' r
-    → (with_people w w.riders r ≡ doors_world world) × Told l (doors_words world) l''
+    → (record w { calls = r } ≡ doors_world world) × Told l (doors_words world) l''
 unfolding doors_world doors_words doored run_cars
 ended {world = world} {l' = l'} {l'' = l''} {n = n} {opened = opened} {calls = calls} {r = r} k e f h =
     let s : length opened ≡ 16 = ap length k.opens ∙ places door_of world (cars_of world) in

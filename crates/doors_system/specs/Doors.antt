@@ -1,7 +1,6 @@
 -- The doors: systems/doors.rs, run.
 use Rattle.std.specs.Prelude.{Bool, not, ◌&&◌, ◌||◌, cond, List, ◌++◌, ℕ, min, eqb}
 use Rattle.world.specs.World.{car_at}
-use Rattle.world.specs.With.{with_people}
 use Rattle.world.specs.declared.World.{World}
 use Rattle.world.specs.declared.Car.{Car}
 use Rattle.world.specs.declared.Line.{Line}
@@ -46,8 +45,7 @@ abbrev pub cars_of : World → ℕ
 cars_of w = min w.cars.count 16
 
 unfoldable pub doors_world : World → World
-doors_world w =
-    with_people (doored w).world (doored w).world.riders (clear_to (doored w).opened w.calls (cars_of w))
+doors_world w = record ((doored w).world) { calls = clear_to (doored w).opened w.calls (cars_of w) }
 
 unfoldable pub doors_words : World → List ℕ
 doors_words w = (doored w).words ++ clear_words_to (doored w).opened w.calls (cars_of w)

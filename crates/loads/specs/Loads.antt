@@ -1,7 +1,6 @@
 -- What the state refuses of a record that loads, and what it does to the world: kinds 1 to 4.
 use Rattle.std.specs.Prelude.{Ok, Err, ◌||◌, cond, List, [], ◌∷◌, ℕ, ◌+◌, leb, ltb, eqb, Float}
 use Rattle.world.specs.World.{new_car}
-use Rattle.world.specs.With.{with_plan, with_cars, with_people}
 use Rattle.sound_rows.specs.Rows.{unloaded, line_broken, rider_broken}
 use Rattle.world.specs.Refusal.{Check, check, unless}
 use Rattle.world.specs.declared.World.{World}
@@ -22,7 +21,7 @@ line_checks w number row =
     ∷ []
 
 abbrev pub with_line : World → ℕ → Line → World
-with_line w number row = with_plan w w.stops (with_item w.lines number row (number + 1)) w.started
+with_line w number row = record w { lines = with_item w.lines number row (number + 1) }
 
 unfoldable pub load_line : World → ℕ → Line → Changed
 load_line w number row = unless (line_checks w number row) Err (Ok (with_line w number row))
@@ -35,7 +34,7 @@ stop_checks w number =
     ∷ []
 
 abbrev pub with_stop : World → ℕ → Float → World
-with_stop w number position = with_plan w (with_item w.stops number position (number + 1)) w.lines w.started
+with_stop w number position = record w { stops = with_item w.stops number position (number + 1) }
 
 unfoldable pub load_stop : World → ℕ → Float → Changed
 load_stop w number position = unless (stop_checks w number) Err (Ok (with_stop w number position))
@@ -48,8 +47,11 @@ car_checks w number plan =
     ∷ check NotLoaded (unloaded w.lines.count plan.line)
     ∷ []
 
+abbrev pub with_new_car : World → ℕ → CarPlan → World
+with_new_car w number plan = record w { cars = with_item w.cars number (new_car plan) (number + 1) }
+
 unfoldable pub load_car : World → ℕ → CarPlan → Changed
-load_car w number plan = unless (car_checks w number plan) Err (Ok (with_cars w (with_item w.cars number (new_car plan) (number + 1))))
+load_car w number plan = unless (car_checks w number plan) Err (Ok (with_new_car w number plan))
 
 -- the count of riders once this number is loaded: one more where it is new
 abbrev pub count_with : ℕ → ℕ → ℕ
@@ -63,8 +65,7 @@ rider_checks w number rider =
     ∷ []
 
 abbrev pub with_rider : World → ℕ → Rider → World
-with_rider w number rider =
-    with_people w (with_item w.riders number rider (count_with w.riders.count number)) w.calls
+with_rider w number rider = record w { riders = with_item w.riders number rider (count_with w.riders.count number) }
 
 unfoldable pub load_rider : World → ℕ → Rider → Changed
 load_rider w number rider = unless (rider_checks w number rider) Err (Ok (with_rider w number rider))

@@ -1,7 +1,7 @@
 -- What the state refuses of a mode, a manual speed or an enable, and what each does to the world: kinds 6, 7 and B.
 use Rattle.std.specs.Prelude.{Ok, Err, Bool, not, List, [], ◌∷◌, ℕ, Float}
 use Rattle.world.specs.World.{car_at}
-use Rattle.world.specs.With.{with_car, with_orders}
+use Rattle.world.specs.With.{with_car}
 use Rattle.world.specs.declared.World.{World}
 use Rattle.world.specs.declared.Car.{Car}
 use Rattle.world.specs.declared.ServiceMode.{ServiceMode}
@@ -19,9 +19,7 @@ order_checks w car =
 
 -- 6 mode
 abbrev pub in_mode : Car → ServiceMode → Car
-in_mode c mode =
-    with_orders c c.phase mode c.enabled c.repositioning c.target_stop c.manual_target_velocity
-    c.destination_queue c.door_command_queue
+in_mode c mode = record c { service_mode = mode }
 
 unfoldable pub set_mode : World → ℕ → ServiceMode → Changed
 set_mode w car mode =
@@ -29,9 +27,7 @@ set_mode w car mode =
 
 -- 7 manual speed
 abbrev pub at_speed : Car → Option Float → Car
-at_speed c speed =
-    with_orders c c.phase c.service_mode c.enabled c.repositioning c.target_stop speed
-    c.destination_queue c.door_command_queue
+at_speed c speed = record c { manual_target_velocity = speed }
 
 unfoldable pub set_manual_speed : World → ℕ → Option Float → Changed
 set_manual_speed w car speed =
@@ -39,9 +35,7 @@ set_manual_speed w car speed =
 
 -- B enable, disable
 abbrev pub marked : Car → Bool → Car
-marked c enabled =
-    with_orders c c.phase c.service_mode enabled c.repositioning c.target_stop c.manual_target_velocity
-    c.destination_queue c.door_command_queue
+marked c enabled = record c { enabled = enabled }
 
 unfoldable pub set_enabled : World → ℕ → Bool → Changed
 set_enabled w car enabled =

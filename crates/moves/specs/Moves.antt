@@ -10,7 +10,6 @@ use Rattle.std.specs.declared.option.Option.TheVariants.{None, Some}
 use Rattle.log_words.specs.Words.{word_of}
 use Rattle.log_words.specs.declared.Event.TheVariants.{ElevatorArrived, ElevatorRepositioned, ElevatorIdle}
 use Rattle.steps.specs.Steps.{both_lit, update_indicators}
-use Rattle.world.specs.With.{with_arrived}
 use Rattle.laws.specs.Numbers.{plus}
 use Rattle.world.specs.declared.Lamps.{Lamps}
 use Rattle.trips.specs.Trips.{travelled, distance_after}
@@ -48,14 +47,28 @@ coming_words Drives i was lamps = []
 coming_words (GoesTo s) i was lamps = word_of (ElevatorArrived i s) ∷ update_indicators i was lamps
 coming_words (Repositions s) i was lamps = word_of (ElevatorRepositioned i s) ∷ word_of (ElevatorIdle i s) ∷ update_indicators i was both_lit
 
+-- the stop popped off its queue
+abbrev pub without_front : Car → ℕ → Car
+without_front c s = record c { destination_queue = popped c s }
+
 -- the car at its stop. run, `if is_repositioning`: "Repositioned elevators go directly to Idle", "cooldown is tick + 240"; else the door begins to open
 abbrev pub come : Trip → Car → Lamps → ℕ → Car
 come Rests c lamps tick = c
 come Drives c lamps tick = c
 come (GoesTo s) c lamps tick =
-    with_arrived c DoorOpening (request_open c.door_transition_ticks c.door_open_ticks) c.target_stop c.repositioning lamps (popped c s)
-    c.cooldown
-come (Repositions s) c lamps tick = with_arrived c Idle c.door None false both_lit (popped c s) (Some (plus tick 240))
+    record (without_front c s) {
+      phase = DoorOpening;
+      door = request_open c.door_transition_ticks c.door_open_ticks;
+      lamps = lamps;
+    }
+come (Repositions s) c lamps tick =
+    record (without_front c s) {
+      phase = Idle;
+      target_stop = None;
+      repositioning = false;
+      lamps = both_lit;
+      cooldown = Some (plus tick 240);
+    }
 
 -- the reposition distance after a tick: run, `if is_repositioning`
 abbrev pub distance_by : Trip → LineKind → Float → Motion → Motion → Float

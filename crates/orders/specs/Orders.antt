@@ -1,7 +1,7 @@
 -- What the state refuses of a send, and what it does to the world: kind 5.
 use Rattle.std.specs.Prelude.{Ok, Err, Bool, true, false, not, ◌||◌, cond, List, [], ◌∷◌, ℕ}
 use Rattle.world.specs.World.{car_at}
-use Rattle.world.specs.With.{with_car, with_orders}
+use Rattle.world.specs.With.{with_car}
 use Rattle.sound_rows.specs.Rows.{unloaded}
 use Rattle.world.specs.declared.World.{World}
 use Rattle.world.specs.declared.Car.{Car}
@@ -25,8 +25,11 @@ can_go Stopped = true
 -- 5 send (dispatch command): "sets phase, target and repositioning flag"
 abbrev pub sent : Car → ℕ → Bool → Car
 sent c stop reposition =
-    with_orders c (cond reposition (Repositioning stop) (MovingToStop stop)) c.service_mode c.enabled reposition (Some stop) c.manual_target_velocity
-    c.destination_queue c.door_command_queue
+    record c {
+      phase = cond reposition (Repositioning stop) (MovingToStop stop);
+      target_stop = Some stop;
+      repositioning = reposition;
+    }
 
 abbrev pub send_checks : World → ℕ → ℕ → List Check
 send_checks w car stop =

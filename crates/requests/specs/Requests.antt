@@ -3,7 +3,7 @@ use Rattle.std.specs.Prelude.{Ok, Err, Bool, not, ◌||◌, cond, List, [], ◌�
 use Rattle.door.specs.declared.DoorCommand.{DoorCommand}
 use Rattle.world.specs.World.{car_at}
 use Rattle.world.specs.Tables.{with_item}
-use Rattle.world.specs.With.{with_car, with_people, with_orders}
+use Rattle.world.specs.With.{with_car}
 use Rattle.sound_rows.specs.Rows.{unloaded}
 use Rattle.call_sets.specs.Calls.{pressed}
 use Rattle.world.specs.declared.World.{World}
@@ -15,8 +15,7 @@ use Rattle.changes.specs.Changes.{Changed, no_such_car}
 -- 8 door command, appended to the car's door queue
 abbrev pub commanded : Car → DoorCommand → Car
 commanded c command =
-    with_orders c c.phase c.service_mode c.enabled c.repositioning c.target_stop c.manual_target_velocity
-    c.destination_queue (with_item c.door_command_queue c.door_command_queue.count command (c.door_command_queue.count + 1))
+    record c { door_command_queue = with_item c.door_command_queue c.door_command_queue.count command (c.door_command_queue.count + 1) }
 
 abbrev pub command_checks : World → ℕ → List Check
 command_checks w car =
@@ -37,8 +36,7 @@ call_checks w stop =
 
 abbrev pub with_call : World → ℕ → Bool → World
 with_call w stop down =
-    with_people w w.riders
-    (record { up = cond down w.calls.up (pressed w.calls.up stop); down = cond down (pressed w.calls.down stop) w.calls.down })
+    record w { calls = record { up = cond down w.calls.up (pressed w.calls.up stop); down = cond down (pressed w.calls.down stop) w.calls.down } }
 
 unfoldable pub press_hall_call : World → ℕ → Bool → Changed
 press_hall_call w stop down = unless (call_checks w stop) Err (Ok (with_call w stop down))
@@ -46,8 +44,7 @@ press_hall_call w stop down = unless (call_checks w stop) Err (Ok (with_call w s
 -- A destination, appended to the car's destination queue
 abbrev pub destined : Car → ℕ → Car
 destined c stop =
-    with_orders c c.phase c.service_mode c.enabled c.repositioning c.target_stop c.manual_target_velocity
-    (with_item c.destination_queue c.destination_queue.count stop (c.destination_queue.count + 1)) c.door_command_queue
+    record c { destination_queue = with_item c.destination_queue c.destination_queue.count stop (c.destination_queue.count + 1) }
 
 abbrev pub destination_checks : World → ℕ → ℕ → List Check
 destination_checks w car stop =

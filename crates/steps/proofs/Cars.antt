@@ -5,7 +5,6 @@ use Prim.Native.Nat.{ℕ, zero, suc, ◌<◌, ◌≤◌}
 use native.Mathlib.Omega.{arith}
 use lib.Seq.{set-get_or}
 use Rattle.world.specs.World.{car_at, no_car}
-use Rattle.world.specs.With.{with_cars}
 use Rattle.world.specs.declared.World.{World}
 use Rattle.world.specs.declared.Car.{Car}
 use Rattle.steps.specs.Steps.{Step, Run, step_of, stepped, not_opened, run_to}
@@ -26,4 +25,4 @@ module _ (turn : World → ℕ → Step) (w : World) where
 
 -- a car that is left as it is
 pub stepped_same : (w : World) (i : ℕ) → w ≡ stepped w i (step_of w (car_at w.cars.items i) [] not_opened)
-stepped_same w i = ap (λ (cars : List Car). with_cars w (record { items = cars; count = w.cars.count })) (sym (set-get_or w.cars.items i no_car))
+stepped_same w i = ap (λ (cars : List Car). record w { cars = record { items = cars; count = w.cars.count } }) (sym (set-get_or w.cars.items i no_car))

@@ -16,7 +16,8 @@ use Rattle.log_words.specs.declared.Event.TheVariants.{DirectionIndicatorChanged
 use Rattle.world.specs.declared.Lamps.{Lamps}
 use Rattle.steps.specs.declared.JustOpened.{JustOpened}
 use Rattle.laws.specs.Numbers.{plus}
-use Rattle.world.specs.With.{with_motion, with_turn}
+use Rattle.world.specs.Tables.{with_item}
+use Rattle.world.specs.With.{with_motion}
 use Rattle.world.specs.World.{serves_none}
 
 -- a car's line; past the table a linear one without a list, which refusal 0 keeps away
@@ -77,7 +78,8 @@ step_of w c words opened = record { car = c; words = words; total = w.total_move
 
 -- the world after a car's turn
 abbrev pub stepped : World → ℕ → Step → World
-stepped w i s = with_turn w i s.car s.total s.distance
+stepped w i s =
+    record w { cars = with_item w.cars i s.car w.cars.count; total_moves = s.total; reposition_distance = s.distance }
 
 -- ---- "Cars go in ascending number", each in the world that the one before has left
 

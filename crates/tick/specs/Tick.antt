@@ -6,11 +6,10 @@ use Rattle.log_words.specs.declared.Event.TheVariants.{TickMade}
 use Rattle.laws.specs.Numbers.{plus}
 use Rattle.movement_system.specs.Movement.{moved}
 use Rattle.doors_system.specs.Doors.{doors_world, doors_words}
-use Rattle.world.specs.With.{with_ticks}
 
 -- a world with the tick's number one more
 abbrev pub ticked : World → World
-ticked w = with_ticks w (plus w.ticks 1)
+ticked w = record w { ticks = plus w.ticks 1 }
 
 unfoldable pub tick_world : World → Float → World
 tick_world w dt = ticked (doors_world (moved w dt).world)

@@ -7,7 +7,6 @@ use Rattle.float.specs.Float.{one, two, epsilon, signum}
 use Rattle.motion.specs.Movement.{tick_movement, arrived_at, moved_to}
 use Rattle.motion.specs.declared.movement.MovementResult.{MovementResult}
 use Rattle.world.specs.World.{car_at, new_car, empty_world, serves_none}
-use Rattle.world.specs.With.{with_plan, with_cars, with_orders}
 use Rattle.world.specs.declared.World.{World}
 use Rattle.world.specs.declared.Car.{Car}
 use Rattle.world.specs.declared.Table.{Table}
@@ -59,8 +58,12 @@ line kind = record { kind = kind; serves = serves_none }
 -- line 0, its stops and its cars
 abbrev world : LineKind → List Float → List Car → World
 world kind stops cars =
-    with_cars (with_plan empty_world (loaded stops empty_world.stops) (loaded (line kind ∷ []) empty_world.lines) true)
-    (loaded cars empty_world.cars)
+    record empty_world {
+      stops = loaded stops empty_world.stops;
+      lines = loaded (line kind ∷ []) empty_world.lines;
+      cars = loaded cars empty_world.cars;
+      started = true;
+    }
 
 -- max speed 2, rates 1, factor 1
 abbrev motion : Float → Float → Motion
@@ -75,8 +78,7 @@ motion position velocity = record {
 
 -- as a send leaves a car
 abbrev sent : Car → ℕ → Car
-sent c stop =
-    with_orders c (MovingToStop stop) c.service_mode c.enabled false (Some stop) c.manual_target_velocity c.destination_queue c.door_command_queue
+sent c stop = record c { phase = MovingToStop stop; target_stop = Some stop; repositioning = false }
 
 -- both door times 1
 abbrev car : Float → Float → ℕ → Car
