@@ -16,7 +16,8 @@ use study_text::{keep, words_of};
 use world::World;
 use world::empty::empty;
 
-// A study between two pieces: the world that it keeps, what was counted, and whether it is over: the report or a refusal is printed.
+// A study between two pieces: the world that it keeps, what was counted, and whether it is over: the report or a refusal
+// is printed, or its input could not be read.
 #[derive(Clone, Copy)]
 pub struct Study {
     pub world: World,

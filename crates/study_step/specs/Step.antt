@@ -95,6 +95,7 @@ begun = record { study = fresh; held = 0; ended = false }
 pub record Steps (run' : Run) (o : Output) (piece out piece' lent' out' : List ℕ) (s : Stepped) : Type 0 where
   -- the next round begins with what this one leaves
   pub next : running run' lent' piece' ≡ s.next
+  pub held : run'.held ≡ length s.next.kept
   -- the kept bytes at the piece's start, the text at the buffer's, and what stands behind them stays
   pub kept : Wrote piece 0 s.next.kept piece' run'.held
   pub text : Wrote out 0 s.text out' o.count

@@ -1,6 +1,6 @@
 -- `study_step::play` meets its contract. Assumes nothing.
 use Rattle.std.proofs.Common.{◌≡◌, ℕ, List, ◌+◌, min, length, take, sym, refl, ap, ◌∙◌, arith}
-use Rattle.log_writes.proofs.Writing.{wrote_taken}
+use Rattle.log_writes.proofs.Writing.{wrote_count, wrote_taken}
 use Rattle.study_text.proofs.Keeping.{take_min}
 use Rattle.study_step.proofs.AtHand.{leaves}
 use Rattle.pieces.specs.declared.Study.{Study}
@@ -19,6 +19,7 @@ returns c =
     let g = rw (same_bytes a.piece.now end n cut) at c.advance-made.ensures in
     record {
       next = leaves g.study g.log (wrote_taken g.kept g.kept_fits);
+      held = wrote_count g.kept g.kept_fits;
       kept = g.kept;
       text = g.text;
       fits = g.text_fits;

@@ -1,5 +1,5 @@
 -- `study_step::step` meets its contract. Assumes nothing.
-use Rattle.std.proofs.Common.{◌≡◌, ℕ, ◌+◌, ◌-◌, min, length, refl, arith}
+use Rattle.std.proofs.Common.{◌≡◌, ℕ, ◌+◌, ◌-◌, min, length, length-take, refl, arith}
 use Rattle.study_step.specs.Step.{stepped}
 use Rattle.study_step.proofs.AtHand.{at_hand, how_many_read, kept_there, kept_again, leaves}
 use Rattle.study_step.proofs.step.Goals as goal
@@ -30,6 +30,7 @@ returns-in-Failure c =
     rw c.in-Failure.is
     (record {
       next = leaves refl refl (kept_again piece held c.min-run.result clipped);
+      held = simp length-take clipped;
       kept = kept_there piece held c.min-run.result clipped;
       text = c.put_failure.ensures;
       fits = omega (arith, c.told-out);
