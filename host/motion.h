@@ -1,4 +1,4 @@
-/* The exported functions of libmotion.a. Link with -lm.
+/* The exported functions of libmotion.a. It needs no other library.
 
    A circumference is no circle where it is not finite or not above 0. Each function takes any double and
    says below what it gives there. */
