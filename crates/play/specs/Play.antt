@@ -1,6 +1,7 @@
 -- A study, record by record, and what is printed of it.
-use Rattle.std.specs.Prelude.{◌≡◌, List, ℕ, zero, suc, take, Option, Some, None, Result, Ok, Err}
+use Rattle.std.specs.Prelude.{◌≡◌, List, ℕ, zero, suc, take, Option, Some, Result, Ok, Err}
 use Rattle.world.specs.declared.World.{World}
+use Rattle.std.specs.Result.{result_err}
 use Rattle.laws.specs.Numbers.{plus}
 use Rattle.world.specs.declared.refusal.Refusal.{Refusal}
 use Rattle.world.specs.declared.refusal.Refusal.TheVariants.{CutShort}
@@ -57,10 +58,6 @@ ending w c zero = last_line (counted_report w c)
 ending w c (suc left) = refused_line CutShort
 
 -- the refusal that it prints, if it prints one
-abbrev pub last_refusal : Reported → Option Refusal
-last_refusal (Ok t) = None
-last_refusal (Err r) = Some r
-
 unfoldable pub ending_refusal : World → Counts → ℕ → Option Refusal
-ending_refusal w c zero = last_refusal (counted_report w c)
+ending_refusal w c zero = result_err (counted_report w c)
 ending_refusal w c (suc left) = Some CutShort

@@ -31,8 +31,8 @@ returns-in-Failure c =
     (record {
       next = leaves refl refl (kept_again piece held c.min-run.result clipped);
       kept = kept_there piece held c.min-run.result clipped;
-      text = c.put_failure.ensures;
+      texts = c.put_failure.ensures;
+      printed = refl;
       fits = omega (arith, c.told-out);
-      stream = refl;
-      over = refl;
+      end = refl;
     })
