@@ -1,6 +1,7 @@
 pub mod Ignoring
 pub mod Joining
 pub mod Ending
+pub mod Telling
 pub mod Rounds
 pub mod Computed
 pub mod Certifying
