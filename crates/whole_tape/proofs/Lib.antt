@@ -8,3 +8,4 @@ pub mod Certifying
 pub mod Fitting
 pub mod Lines
 pub mod Printing
+pub mod Placing

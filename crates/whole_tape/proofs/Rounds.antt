@@ -17,7 +17,7 @@ use Rattle.study_step.specs.Step.{Reading, Read, Failed, Unasked, Running, reads
 use Rattle.whole_tape.specs.Place.{error_text}
 use Rattle.whole_tape.specs.Study.{made_of, study_text}
 use Rattle.whole_tape.specs.Study as Study
-use Rattle.whole_tape.specs.WholeTape.{begun, after_rounds, printed, told, bytes_of, tape_of, InOrder, NoneFailed, is_read, AsWanted, Beginning, AllWritten, Over, Ends, InPieces}
+use Rattle.whole_tape.specs.WholeTape.{begun, after_rounds, printed, told, bytes_of, tape_of, InOrder, NoneFailed, is_read, AsWanted, Beginning, Over, Ends, InPieces}
 use Rattle.whole_tape.proofs.Joining.{still_prints, advanced_prints}
 use Rattle.whole_tape.proofs.Telling.{said, still_says, advanced_says, advanced_quiet, handed_on, begins_says}
 use Rattle.whole_tape.proofs.Ending.{advanced_few, advanced_over, unasked}

@@ -9,13 +9,12 @@ use lib.Dec.{eqb}
 use lib.ListN.{length, drop, length-append, length-drop}
 use lib.Seq.{drop-append-le}
 use borrow.Author.Tests.{ne_eqb, not-true}
-use Rattle.std.specs.Prelude.{Option, None, Some, Ok, Err}
+use Rattle.std.specs.Prelude.{None, Some, Ok, Err}
 use Rattle.std.specs.Result.{result_err}
 use Rattle.laws.proofs.Bools.{yes, and_left, and_right}
 use Rattle.laws.specs.Numbers.{plus}
 use Rattle.world.specs.World.{empty_world}
 use Rattle.world.specs.declared.World.{World}
-use Rattle.world.specs.declared.refusal.Refusal.{Refusal}
 use Rattle.record.specs.Record.{Answer, Outcome, record_of, is_accepted, used_of}
 use Rattle.record.specs.Calls.{Call, outcome}
 use Rattle.report.specs.Report.{no_counts}
@@ -27,7 +26,7 @@ use Rattle.pieces.specs.Pieces.{Playing, next_record, ready, goes, play_to, ends
 use Rattle.pieces.proofs.Sizes.{words_few}
 use Rattle.study_step.specs.Step.{told_of}
 use Rattle.whole_tape.specs.Study.{Made, unless_refused, made, made_of}
-use Rattle.whole_tape.specs.Place.{refusal_or, refusal_of, sum_of, accepted_calls, words_used, place_of, error_text}
+use Rattle.whole_tape.specs.Place.{refusal_or, refusal_of, sum_of, accepted_calls, words_used, error_text}
 use Rattle.whole_tape.proofs.Joining.{kept, made_enough, same_record, some_words, words_joined}
 
 -- ---- what is said of calls, from a place on
@@ -215,7 +214,7 @@ said_is (call ∷ calls) w c left n m = go (outcome w call).answer (λ c n m. sa
 
     go : (a : Answer)
         → ((c : Counts) (n m : ℕ) → said_of o.world c (behind n m) calls left
-            ≡ told_of (behind (n + accepted_calls o.world calls) (m + words_used o.world calls)) (refusal_of o.world c calls left))
+        ≡ told_of (behind (n + accepted_calls o.world calls) (m + words_used o.world calls)) (refusal_of o.world c calls left))
         → said_by a (behind n m) (said_of o.world (counts_after a o.log c) (place_after a (behind n m)) calls left)
         ≡ told_of (behind (n + sum_of a 1 (accepted_calls o.world calls)) (m + sum_of a (used_of a) (words_used o.world calls)))
         (refusal_or a (refusal_of o.world (counts_after a o.log c) calls left))

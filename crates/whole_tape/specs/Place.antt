@@ -1,5 +1,5 @@
 -- Where and why a tape is refused: what stands on standard error of it.
-use Rattle.std.specs.Prelude.{List, [], ◌∷◌, ℕ, ◌+◌, ◌%◌, ◌^◌, length, Option, Some, Ok, Err}
+use Rattle.std.specs.Prelude.{◌≡◌, List, [], ◌∷◌, ℕ, ◌+◌, ◌*◌, ◌%◌, ◌^◌, length, drop, Option, Some, Ok, Err}
 use Rattle.world.specs.World.{empty_world}
 use Rattle.world.specs.declared.World.{World}
 use Rattle.world.specs.declared.refusal.Refusal.{Refusal}
@@ -10,7 +10,9 @@ use Rattle.report.specs.declared.Counts.{Counts}
 use Rattle.study_text.specs.declared.Place.{Place}
 use Rattle.play.specs.Play.{counts_after, ending_refusal}
 use Rattle.study_step.specs.Step.{told_of}
-use Rattle.whole_tape.specs.Study.{Made, made_of}
+use Rattle.whole_tape.specs.Certified.{AllAccepted}
+use Rattle.whole_tape.specs.PrintedTotals.{AcceptsWhole}
+use Rattle.whole_tape.specs.Study.{made_of}
 
 -- ---- the refusal
 
@@ -52,3 +54,21 @@ place_of w calls = record { records = accepted_calls w calls % 2 ^ 64; words = w
 unfoldable pub error_text : List ℕ → List ℕ
 error_text tape =
     told_of (place_of empty_world (made_of tape).calls) (refusal_of empty_world no_counts (made_of tape).calls (made_of tape).left)
+
+-- ---- the claims about it
+
+-- of the tape's calls the last alone may be refused. The number, one more than the accepted calls, is its own, counted from
+-- 1; where bytes are left over, that of the call which they do not make. And what is left begins at the word.
+pub record Numbered (tape : List ℕ) : Type 0 where
+  pub call :
+      (AllAccepted empty_world (made_of tape).calls → ⊥)
+      → accepted_calls empty_world (made_of tape).calls + 1 ≡ length (made_of tape).calls
+  pub end :
+      AllAccepted empty_world (made_of tape).calls
+      → accepted_calls empty_world (made_of tape).calls ≡ length (made_of tape).calls
+  pub word : (made_of tape).left ≡ drop (4 * words_used empty_world (made_of tape).calls) tape
+
+pub record Places : Type 0 where
+  pub numbered : (tape : List ℕ) → Numbered tape
+  -- of a tape that is accepted whole nothing is said
+  pub silent : (tape : List ℕ) → AcceptsWhole tape → error_text tape ≡ []

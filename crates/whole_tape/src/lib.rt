@@ -6,6 +6,7 @@ ghost use Rattle.whole_tape.specs.WholeTape.{Ignored, Longest, InPieces};
 ghost use Rattle.whole_tape.specs.Certified.{Certified};
 ghost use Rattle.whole_tape.specs.NeverShort.{NeverShort};
 ghost use Rattle.whole_tape.specs.PrintedTotals.{PrintedTotals, OneByte};
+ghost use Rattle.whole_tape.specs.Place.{Places};
 ghost use Rattle.whole_tape.specs.Example.{PaperTape, PaperCalls, PaperRounds, SecondStart, OneByteTold};
 
 // Carries the claims.
@@ -32,10 +33,10 @@ pub fn printed_totals() -> bool
     true
 }
 
-// Carries the claims about two tapes that are refused: what stands on standard error of them.
-#[tactic(auto, using(crate::proofs::Computed::second_start_lem, crate::proofs::Computed::one_byte_told))]
+// Carries the claims about the place at which a tape is refused, and about two tapes that are.
+#[tactic(auto, using(crate::proofs::Placing::places, crate::proofs::Computed::second_start_lem, crate::proofs::Computed::one_byte_told))]
 pub fn told_places() -> bool
-    ensures { (result ≡ true) × SecondStart × OneByteTold }
+    ensures { (result ≡ true) × Places × SecondStart × OneByteTold }
 {
     true
 }
