@@ -28,8 +28,8 @@ pub struct Study {
     pub over: bool,
 }
 
-// How many bytes of what was at hand are kept at the piece's start, how many bytes of text stand at the buffer's, and the
-// refusal that is printed there, if one is.
+// How many bytes of what was at hand are kept at the piece's start, how many bytes of text stand at the buffer's, and
+// the refusal that is printed there, if one is.
 // Stays: counts beside the buffers. The arrays' types hold the lengths that the promise needs; a `Writer` lends a slice of any length, and a `Vec` may
 // find no memory.
 #[derive(Clone, Copy)]
@@ -66,7 +66,8 @@ fn goes(ended: bool, over: bool, words: usize, at: usize) -> bool
     !over & (((69 <= words) | (ended & (0 < words))) & (at < 32768))
 }
 
-// The records of the piece, whose words these are, as long as the next one is ready and its text has room. Answers where they ended.
+// The records of the piece, whose words these are, as long as the next one is ready and its text has room. Answers where
+// they ended.
 // Stays: study, ended, log and out side by side, here and below. The study goes on to the next piece, `ended` is of this one, and the two buffers are
 // the program's, lent for one call: a struct of them would be three lent fields that `record_in_place` and `tell_answer` take apart again.
 fn play_words(
@@ -113,8 +114,8 @@ fn play_bytes(
     play_words(study, bytes, &words[..count], ended, log, out)
 }
 
-// The end of the tape, where the input ended and so many bytes are left: the report, or a refusal. Answers the refusal at
-// which the study is over: this one, or the one that its records met.
+// The end of the tape, where the input ended and so many bytes are left: the report, or a refusal. Answers the refusal
+// at which the study is over: this one, or the one that its records met.
 #[tactic(auto, using(crate::proofs::Going::at_end_lem, crate::proofs::Going::not_at_end))]
 fn close(
     study: &mut Study,

@@ -1,6 +1,6 @@
-// The study: a tape on standard input, its log words and the report on standard output, and on standard error which record
-// was refused. What a round does is `study_step`'s matter; here the input is read and the text written out. Of the input
-// only what no record has used yet is kept, so that a tape may have any length.
+// The study: a tape on standard input, its log words and the report on standard output, and on standard error which
+// record was refused. What a round does is `study_step`'s matter; here the input is read and the text written out. Of
+// the input only what no record has used yet is kept, so that a tape may have any length.
 #![tactic(auto)]
 
 use std::io::{self, Read, Write};

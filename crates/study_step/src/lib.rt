@@ -3,8 +3,8 @@
 
 ghost use Rattle.std.specs.Prelude.{◌≡◌, ◌+◌, take, cond, Some, None};
 ghost use Rattle.log_writes.specs.Log.{Wrote};
-ghost use Rattle.study_step.specs.Step.{got_of, Steps, begun, stepped, played, told_of, end_by, cannot_read, running, reading};
-ghost use Rattle.study_step.specs.Step.{reads as wants};
+ghost use Rattle.study_step.specs.Step.{got_of, Steps, begun, stepped, played, cannot_read, running, reading};
+ghost use Rattle.study_step.specs.Step.{told_of, end_by, reads as wants};
 
 use log_writes::Writer;
 use pieces::{Study, advance};

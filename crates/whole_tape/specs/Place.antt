@@ -53,12 +53,14 @@ place_of w calls = record { records = accepted_calls w calls % 2 ^ 64; words = w
 
 unfoldable pub error_text : List ℕ → List ℕ
 error_text tape =
-    told_of (place_of empty_world (made_of tape).calls) (refusal_of empty_world no_counts (made_of tape).calls (made_of tape).left)
+    told_of
+    (place_of empty_world (made_of tape).calls)
+    (refusal_of empty_world no_counts (made_of tape).calls (made_of tape).left)
 
 -- ---- the claims about it
 
--- of the tape's calls the last alone may be refused. The number, one more than the accepted calls, is its own, counted from
--- 1; where bytes are left over, that of the call which they do not make. And what is left begins at the word.
+-- of the tape's calls the last alone may be refused. The number, one more than the accepted calls, is its own, counted
+-- from 1; where bytes are left over, that of the call which they do not make. And what is left begins at the word.
 pub record Numbered (tape : List ℕ) : Type 0 where
   pub call :
       (AllAccepted empty_world (made_of tape).calls → ⊥)

@@ -21,11 +21,10 @@ returns c =
     let cut : min end (length a.piece.now) ≡ min n (length a.piece.now) = omega (arith, c.saturating_add-end.ensures, c.told-piece) in
     let g = rw (same_bytes a.piece.now end n cut) at c.advance-made.ensures in
     let p = advanced a.run.now.ended (playing a.run.now.study a.log.now (take n a.piece.now)) in
-    let line = rw (ap (λ (s : Study). s.place) g.study, g.refusal) at c.put_told.ensures in
     record {
       next = leaves g.study g.log (wrote_taken g.kept g.kept_fits);
       kept = g.kept;
-      texts = also g.text line;
+      texts = also g.text (rw (← ap (λ (s : Study). s.place) g.study, ← g.refusal) c.put_told.ensures);
       printed = wrote_count g.text (omega (arith, g.text_fits, c.told-out));
       fits = rw length-append (omega (arith, g.text_fits, told_length p.place p.refusal, c.told-out));
       end = c.end_of.ensures ∙ ap (λ (s : Study). end_by s.over) g.study;
