@@ -17,7 +17,7 @@ use Rattle.study_step.specs.Step.{Reading, Read, Failed, Unasked, Running, reads
 use Rattle.whole_tape.specs.Place.{error_text}
 use Rattle.whole_tape.specs.Study.{made_of, study_text}
 use Rattle.whole_tape.specs.Study as Study
-use Rattle.whole_tape.specs.WholeTape.{begun, after_rounds, printed, told, bytes_of, tape_of, InOrder, NoneFailed, is_read, AsWanted, Beginning, Over, Ends, InPieces}
+use Rattle.whole_tape.specs.WholeTape.{begun, after_rounds, output_of, error_of, bytes_of, tape_of, InOrder, NoneFailed, is_read, AsWanted, Beginning, Over, Ends, InPieces}
 use Rattle.whole_tape.proofs.Joining.{still_prints, advanced_prints}
 use Rattle.whole_tape.proofs.Telling.{said, still_says, advanced_says, advanced_quiet, handed_on, begins_says}
 use Rattle.whole_tape.proofs.Ending.{advanced_few, advanced_over, unasked}
@@ -70,8 +70,8 @@ over_silent r (Read bytes) o = rw (advanced_over (r.ended || eqb (length bytes) 
 over_silent r Unasked o = rw (advanced_over r.ended (resting r) o)
 over_silent r Failed o = refl
 
-silent : (r : Running) (gs : List Reading) → r.study.over ≡ true → printed r gs ≡ []
-unfolding printed
+silent : (r : Running) (gs : List Reading) → r.study.over ≡ true → output_of r gs ≡ []
+unfolding output_of
 silent r [] o = refl
 silent r (g ∷ gs) o = rw (over_silent r g o) (silent (stepped r g).next gs (over_next r g o))
 
@@ -89,7 +89,7 @@ read_prints s log kept bytes more = rw append_assoc
 
 record Writes (r : Running) (gs : List Reading) (more : List ℕ) : Type 0 where
   rest : List ℕ
-  joined : printed r gs ++ rest ≡ still_prints (resting r) (tape_of gs more)
+  joined : output_of r gs ++ rest ≡ still_prints (resting r) (tape_of gs more)
   all : NoneFailed gs → (after_rounds r gs).study.over ≡ true → rest ≡ []
 
 over_prints : (p : Playing) (more : List ℕ) → p.text ≡ [] → p.over ≡ true → still_prints p more ≡ []
@@ -106,7 +106,7 @@ after_played s log bytes ended tape written rest h e =
     ∙ played_prints s log bytes ended tape h
 
 writes : (r : Running) (gs : List Reading) (more : List ℕ) → Settled r (tape_of gs more) → InOrder gs more → Writes r gs more
-unfolding printed after_rounds tape_of InOrder NoneFailed stepped
+unfolding output_of after_rounds tape_of InOrder NoneFailed stepped
 writes r [] more h k = record {
   rest = still_prints (resting r) more;
   joined = refl;
@@ -167,8 +167,8 @@ played_says s log bytes ended more later h e =
     ∙ advanced_says ended (playing s log bytes) more h
 
 says : (r : Running) (gs : List Reading) (more : List ℕ) → Settled r (tape_of gs more) → InOrder gs more → NoneFailed gs
-    → (after_rounds r gs).study.over ≡ true → told r gs ≡ still_says (resting r) (tape_of gs more)
-unfolding told after_rounds tape_of InOrder NoneFailed stepped
+    → (after_rounds r gs).study.over ≡ true → error_of r gs ≡ still_says (resting r) (tape_of gs more)
+unfolding error_of after_rounds tape_of InOrder NoneFailed stepped
 says r [] more h k f o = sym (over_says r.study r.log r.kept more o)
 says r (Read bytes ∷ gs) more h k f o =
     let ended = r.ended || eqb (length bytes) 0 in
@@ -189,8 +189,8 @@ unfolding Over
 all_over gs more k f o =
     let w = writes begun gs more unsettled k in
     record {
-      output = sym (append-nil (printed begun gs))
-          ∙ ap (λ (t : List ℕ). printed begun gs ++ t) (sym (w.all f o))
+      output = sym (append-nil (output_of begun gs))
+          ∙ ap (λ (t : List ℕ). output_of begun gs ++ t) (sym (w.all f o))
           ∙ w.joined
           ∙ begun_prints (tape_of gs more);
       error = says begun gs more unsettled k f o ∙ begun_says (tape_of gs more);

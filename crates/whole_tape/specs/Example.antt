@@ -6,7 +6,7 @@ use Rattle.whole_tape.specs.Study.{made_of, study_text}
 use Rattle.whole_tape.specs.Certified.{AllAccepted}
 use Rattle.study_step.specs.Step.{Reading, Read}
 use Rattle.whole_tape.specs.Place.{error_text}
-use Rattle.whole_tape.specs.WholeTape.{begun, after_rounds, printed, told, InOrder, AsWanted}
+use Rattle.whole_tape.specs.WholeTape.{begun, after_rounds, output_of, error_of, InOrder, AsWanted}
 
 -- a word's bytes, the lowest first
 abbrev pub little_endian : List ℕ → List ℕ
@@ -58,8 +58,8 @@ pub record PaperRounds : Type 0 where
   pub in_order : InOrder paper_reads []
   pub as_wanted : AsWanted begun paper_reads
   pub over : (after_rounds begun paper_reads).study.over ≡ true
-  pub output : printed begun paper_reads ≡ paper_output
-  pub error : told begun paper_reads ≡ []
+  pub output : output_of begun paper_reads ≡ paper_output
+  pub error : error_of begun paper_reads ≡ []
 
 -- ---- with a second start behind it
 
@@ -73,7 +73,7 @@ second_start_error =
 
 pub record SecondStart : Type 0 where
   pub error : error_text second_start ≡ second_start_error
-  pub told : told begun (Read second_start ∷ Read [] ∷ []) ≡ second_start_error
+  pub rounds : error_of begun (Read second_start ∷ Read [] ∷ []) ≡ second_start_error
 
 -- ---- a tape of one byte: no word, and so no record, is there
 

@@ -26,14 +26,14 @@ after_rounds r [] = r
 after_rounds r (g ∷ gs) = after_rounds (stepped r g).next gs
 
 -- what they write to standard output
-unfoldable pub printed : Running → List Reading → List ℕ
-printed r [] = []
-printed r (g ∷ gs) = (stepped r g).output ++ printed (stepped r g).next gs
+unfoldable pub output_of : Running → List Reading → List ℕ
+output_of r [] = []
+output_of r (g ∷ gs) = (stepped r g).output ++ output_of (stepped r g).next gs
 
 -- and to standard error
-unfoldable pub told : Running → List Reading → List ℕ
-told r [] = []
-told r (g ∷ gs) = (stepped r g).error ++ told (stepped r g).next gs
+unfoldable pub error_of : Running → List Reading → List ℕ
+error_of r [] = []
+error_of r (g ∷ gs) = (stepped r g).error ++ error_of (stepped r g).next gs
 
 -- ---- the tape that they read
 
@@ -75,13 +75,13 @@ pub record BeginningOf (whole part : List ℕ) : Type 0 where
 -- whatever the reads give, what was written to standard output is a beginning of the whole tape's text
 unfoldable pub Beginning : Type 0
 Beginning = (gs : List Reading) (more : List ℕ) → InOrder gs more
-    → BeginningOf (study_text (tape_of gs more)) (printed begun gs)
+    → BeginningOf (study_text (tape_of gs more)) (output_of begun gs)
 
 -- it is all of it, whatever else the input holds, once the study is over and no read failed; and on standard error then
 -- stands which record was refused and why, where one was, and nothing else
 pub record AllWritten (tape : List ℕ) (gs : List Reading) : Type 0 where
-  pub output : printed begun gs ≡ study_text tape
-  pub error : told begun gs ≡ error_text tape
+  pub output : output_of begun gs ≡ study_text tape
+  pub error : error_of begun gs ≡ error_text tape
 
 unfoldable pub Over : Type 0
 Over = (gs : List Reading) (more : List ℕ) → InOrder gs more → NoneFailed gs
