@@ -10,14 +10,16 @@ use Rattle.io.specs.Digits.{hex_digit_ascii}
 use Rattle.world.specs.declared.World.{World}
 use Rattle.world.specs.Refusal.{refusal_number}
 use Rattle.world.specs.declared.refusal.Refusal.{Refusal}
-use Rattle.world.specs.declared.refusal.Refusal.TheVariants.{CutShort}
+use Rattle.world.specs.declared.refusal.Refusal.TheVariants.{BrokenWorld, CutShort, UnknownKind, FieldOutside, FloatOutside, LogKind, NotNow, NotNext, NotLoaded, CannotGo, QueueFull, LastTick, LogShort}
+use Rattle.laws.specs.Numbers.{plus}
 use Rattle.record.specs.Record.{Answer}
 use Rattle.std.specs.Prelude.{Ok, Err}
 use Rattle.report.specs.declared.Counts.{Counts}
 use Rattle.report.specs.declared.Totals.{Totals}
 use Rattle.report.specs.Report.{Reported}
 use Rattle.report.specs.Report.{counted_report}
-use Rattle.study_text.specs.Text.{words_of, report_line, refused_line}
+use Rattle.study_text.specs.Text.{words_of, report_line, refused_line, meaning, place_line}
+use Rattle.study_text.specs.declared.Place.{Place}
 use Rattle.study_numbers.specs.NumberText.{word_line, word_lines, decimal_to}
 use Rattle.study_numbers.proofs.Digits.{word_line_length}
 use Rattle.play.specs.Play.{told, last_line, ending}
@@ -101,3 +103,31 @@ ending_length w c zero = go (counted_report w c)
     go (Ok t) = report_length t
     go (Err r) = omega (arith, refused_length r)
 ending_length w c (suc left) = omega (arith, refused_length CutShort)
+
+-- on standard error
+meaning_length : (r : Refusal) → length (meaning r) ≤ 110
+meaning_length BrokenWorld = omega arith
+meaning_length CutShort = omega arith
+meaning_length UnknownKind = omega arith
+meaning_length FieldOutside = omega arith
+meaning_length FloatOutside = omega arith
+meaning_length LogKind = omega arith
+meaning_length NotNow = omega arith
+meaning_length NotNext = omega arith
+meaning_length NotLoaded = omega arith
+meaning_length CannotGo = omega arith
+meaning_length QueueFull = omega arith
+meaning_length LastTick = omega arith
+meaning_length LogShort = omega arith
+
+pub place_length : (p : Place) (r : Refusal) → length (place_line p r) ≤ 210
+unfolding place_line
+place_length p r =
+    simp length-append
+    (omega (
+      arith,
+      decimal_length 19 (plus p.records 1),
+      decimal_length 19 p.words,
+      decimal_length 19 (refusal_number r),
+      meaning_length r,
+    ))

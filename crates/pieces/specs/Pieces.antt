@@ -1,13 +1,16 @@
 -- The study by pieces of its input: what is done with the bytes at hand.
-use Rattle.std.specs.Prelude.{◌≡◌, Bool, true, false, not, ◌&&◌, ◌||◌, cond, List, [], ◌++◌, ℕ, zero, suc, ◌+◌, ◌*◌, ◌≤◌, leb, ltb, eqb, length, drop}
+use Rattle.std.specs.Prelude.{◌≡◌, Bool, true, false, not, ◌&&◌, ◌||◌, cond, List, [], ◌++◌, ℕ, zero, suc, ◌+◌, ◌*◌, ◌≤◌, leb, ltb, eqb, length, drop, Option, None}
+use Rattle.std.specs.Result.{result_err}
 use Rattle.world.specs.World.{empty_world}
 use Rattle.world.specs.declared.World.{World}
+use Rattle.world.specs.declared.refusal.Refusal.{Refusal}
 use Rattle.log_writes.specs.Log.{Wrote}
 use Rattle.record.specs.Record.{Outcome, record_of, is_accepted, used_of}
 use Rattle.report.specs.Report.{no_counts}
 use Rattle.report.specs.declared.Counts.{Counts}
 use Rattle.study_text.specs.Text.{words_of}
-use Rattle.play.specs.Play.{told, counts_after, ending}
+use Rattle.study_text.specs.declared.Place.{Place}
+use Rattle.play.specs.Play.{told, counts_after, place_after, ending, ending_refusal}
 use Rattle.pieces.specs.declared.Advanced.{Advanced}
 use Rattle.pieces.specs.declared.Study.{Study}
 
@@ -16,6 +19,8 @@ use Rattle.pieces.specs.declared.Study.{Study}
 pub record Playing : Type 0 where
   pub world : World
   pub counts : Counts
+  -- the accepted records, and the words that they used
+  pub place : Place
   pub log : List ℕ
   -- the input at hand that no record has used yet
   pub bytes : List ℕ
@@ -23,16 +28,20 @@ pub record Playing : Type 0 where
   pub text : List ℕ
   -- the report or a refusal is printed
   pub over : Bool
+  -- the refusal that is printed, if one is
+  pub refusal : Option Refusal
 
 -- after a record that gave this
 abbrev pub after : Playing → Outcome → Playing
 after p o = record {
   world = o.world;
   counts = counts_after o.answer o.log p.counts;
+  place = place_after o.answer p.place;
   log = o.log;
   bytes = drop (4 * used_of o.answer) p.bytes;
   text = p.text ++ told o.answer o.log;
   over = not (is_accepted o.answer);
+  refusal = result_err o.answer;
 }
 
 -- the record that the bytes at hand begin with
@@ -63,10 +72,12 @@ abbrev pub closed : Playing → Playing
 closed p = record {
   world = p.world;
   counts = p.counts;
+  place = p.place;
   log = p.log;
   bytes = p.bytes;
   text = p.text ++ ending p.world p.counts (length p.bytes);
   over = true;
+  refusal = ending_refusal p.world p.counts (length p.bytes);
 }
 
 unfoldable pub close : Bool → Playing → Playing
@@ -79,22 +90,36 @@ advanced ended p = close ended (play_to (2 + length p.bytes) ended p)
 -- ---- in the code: the first `held` bytes of the piece are at hand, the buffer is empty
 
 abbrev pub playing : Study → List ℕ → List ℕ → Playing
-playing s log bytes = record { world = s.world; counts = s.counts; log = log; bytes = bytes; text = []; over = s.over }
+playing s log bytes = record {
+  world = s.world;
+  counts = s.counts;
+  place = s.place;
+  log = log;
+  bytes = bytes;
+  text = [];
+  over = s.over;
+  refusal = None;
+}
+
+-- at the tape's start
+abbrev pub no_place : Place
+no_place = record { records = 0; words = 0 }
 
 -- a study of which nothing is read yet
 abbrev pub fresh : Study
-fresh = record { world = empty_world; counts = no_counts; over = false }
+fresh = record { world = empty_world; counts = no_counts; place = no_place; over = false }
 
 abbrev pub study_of : Playing → Study
-study_of p = record { world = p.world; counts = p.counts; over = p.over }
+study_of p = record { world = p.world; counts = p.counts; place = p.place; over = p.over }
 
 -- what the code gives: the study and the log that it was lent, the bytes that are kept at the piece's start, the text at
--- the buffer's start
+-- the buffer's start, and the refusal that stands there
 pub record Gives (study' : Study) (a : Advanced) (piece out piece' lent' out' : List ℕ) (p : Playing) : Type 0 where
   pub study : study' ≡ study_of p
   pub log : lent' ≡ p.log
   pub kept : Wrote piece 0 p.bytes piece' a.held
   pub text : Wrote out 0 p.text out' a.at
-  -- nothing of these is lost
+  pub refusal : a.refusal ≡ p.refusal
+  -- nothing of these is lost, and of the buffer's 65,536 bytes some are free for a line
   pub kept_fits : length p.bytes ≤ length piece
-  pub text_fits : length p.text ≤ length out
+  pub text_fits : length p.text ≤ 51200

@@ -12,27 +12,38 @@ use log_writes::Writer;
 use play::{finish, tell_answer};
 use report::Counts;
 use study_numbers::Text;
-use study_text::{keep, words_of};
+use study_text::{Place, keep, words_of};
 use world::World;
 use world::empty::empty;
+use world::refusal::Refusal;
 
-// A study between two pieces: the world that it keeps, what was counted, and whether it is over: the report or a refusal
-// is printed, or its input could not be read.
+// A study between two pieces: the world that it keeps, what was counted, the records and words that are behind it, and
+// whether it is over: the report or a refusal is printed, or its input could not be read.
 #[derive(Clone, Copy)]
 pub struct Study {
     pub world: World,
     pub counts: Counts,
+    pub place: Place,
     // Stays: one bit and no enum. World and counts are in both of its variants, and the loop, the tape's end and the program ask for this alone.
     pub over: bool,
 }
 
-// How many bytes of what was at hand are kept at the piece's start, and how many bytes of text stand at the buffer's.
+// How many bytes of what was at hand are kept at the piece's start, how many bytes of text stand at the buffer's, and
+// the refusal that is printed there, if one is.
 // Stays: counts beside the buffers. The arrays' types hold the lengths that the promise needs; a `Writer` lends a slice of any length, and a `Vec` may
 // find no memory.
 #[derive(Clone, Copy)]
 pub struct Advanced {
     pub held: usize,
     pub at: usize,
+    pub refusal: Option<Refusal>,
+}
+
+// Where in its words the records of a piece ended, and the refusal at which they did, if one was met.
+#[derive(Clone, Copy)]
+struct Played {
+    from: usize,
+    refusal: Option<Refusal>,
 }
 
 // A study of a tape of which nothing is read yet.
@@ -43,6 +54,7 @@ pub fn begin() -> Study
     Study {
         world: empty(),
         counts: Counts::default(),
+        place: Place::default(),
         over: false,
     }
 }
@@ -54,7 +66,8 @@ fn goes(ended: bool, over: bool, words: usize, at: usize) -> bool
     !over & (((69 <= words) | (ended & (0 < words))) & (at < 32768))
 }
 
-// The records of the piece, whose words these are, as long as the next one is ready and its text has room. Answers where they ended in the words.
+// The records of the piece, whose words these are, as long as the next one is ready and its text has room. Answers where
+// they ended.
 // Stays: study, ended, log and out side by side, here and below. The study goes on to the next piece, `ended` is of this one, and the two buffers are
 // the program's, lent for one call: a struct of them would be three lent fields that `record_in_place` and `tell_answer` take apart again.
 fn play_words(
@@ -64,20 +77,22 @@ fn play_words(
     ended: bool,
     log: &mut [u32; 2048],
     out: &mut Text,
-) -> usize
+) -> Played
     requires words { words.now ≡ words_of piece.now }
     requires empty { IsEmpty out.old }
     ensures { Reached study.new result piece.now out.old log.new out.new (play_to (2 + length piece.now) ended (playing study.old log.old piece.now)) }
 {
     let mut from: usize = 0;
+    let mut refusal = None;
     // Stays: a while: its condition asks what was told last, and a record says itself how many words it used.
     while goes(ended, study.over, words.len() - from, out.at) {
         let answer = record_in_place(&mut study.world, &words[from..], log);
-        let used = tell_answer(answer, &mut study.counts, log, out);
-        study.over = used.is_none();
+        let used = tell_answer(answer, &mut study.counts, &mut study.place, log, out);
+        study.over = used.is_err();
+        refusal = used.err();
         from += used.unwrap_or(0);
     }
-    from
+    Played { from, refusal }
 }
 
 // The records of these bytes.
@@ -87,7 +102,7 @@ fn play_bytes(
     ended: bool,
     log: &mut [u32; 2048],
     out: &mut Text,
-) -> usize
+) -> Played
     requires few { length bytes.now ≤ 16384 }
     requires empty { IsEmpty out.old }
     ensures { Reached study.new result bytes.now out.old log.new out.new (play_to (2 + length bytes.now) ended (playing study.old log.old bytes.now)) }
@@ -99,16 +114,23 @@ fn play_bytes(
     play_words(study, bytes, &words[..count], ended, log, out)
 }
 
-// The end of the tape, where the input ended and so many bytes are left: the report, or a refusal. Answers whether the study is over.
+// The end of the tape, where the input ended and so many bytes are left: the report, or a refusal. Answers the refusal
+// at which the study is over: this one, or the one that its records met.
 #[tactic(auto, using(crate::proofs::Going::at_end_lem, crate::proofs::Going::not_at_end))]
-fn close(study: &Study, ended: bool, left: usize, out: &mut Text) -> bool
-    ensures { Closes study.now ended left out.old result out.new }
+fn close(
+    study: &mut Study,
+    ended: bool,
+    left: usize,
+    refusal: Option<Refusal>,
+    out: &mut Text,
+) -> Option<Refusal>
+    ensures { Closes study.old ended left refusal out.old study.new result out.new }
 {
     if ended & (!study.over & ((left / 4 == 0) & (out.at < 32768))) {
-        finish(study.world, study.counts, left, out);
-        return true;
+        study.over = true;
+        return finish(study.world, study.counts, left, out);
     }
-    study.over
+    refusal
 }
 
 // What is done with the bytes at hand, the first `held` of the piece: their records, and at the input's end the report.
@@ -128,10 +150,12 @@ pub fn advance(
 {
     let end = held.min(piece.len());
     let mut text = Writer::new(out);
-    let used = 4 * play_bytes(study, &piece[..end], ended, log, &mut text);
-    study.over = close(study, ended, end - used, &mut text);
+    let played = play_bytes(study, &piece[..end], ended, log, &mut text);
+    let used = 4 * played.from;
+    let refusal = close(study, ended, end - used, played.refusal, &mut text);
     Advanced {
         held: keep(piece, used, end),
         at: text.at,
+        refusal,
     }
 }

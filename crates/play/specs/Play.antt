@@ -1,6 +1,9 @@
 -- A study, record by record, and what is printed of it.
-use Rattle.std.specs.Prelude.{◌≡◌, List, ℕ, zero, suc, take, Option, Some, None, Ok, Err}
+use Rattle.std.specs.Prelude.{◌≡◌, List, ℕ, zero, suc, take, Option, Some, Result, Ok, Err}
 use Rattle.world.specs.declared.World.{World}
+use Rattle.std.specs.Result.{result_err}
+use Rattle.laws.specs.Numbers.{plus}
+use Rattle.world.specs.declared.refusal.Refusal.{Refusal}
 use Rattle.world.specs.declared.refusal.Refusal.TheVariants.{CutShort}
 use Rattle.log_writes.specs.Told.{Told as Prints}
 use Rattle.log_writes.specs.declared.Writer.{Writer}
@@ -10,6 +13,7 @@ use Rattle.report.specs.declared.Counts.{Counts}
 use Rattle.report.specs.Report.{Reported}
 use Rattle.study_numbers.specs.NumberText.{word_lines}
 use Rattle.study_text.specs.Text.{report_line, refused_line}
+use Rattle.study_text.specs.declared.Place.{Place}
 
 -- ---- a record
 
@@ -23,14 +27,21 @@ abbrev pub counts_after : Answer → List ℕ → Counts → Counts
 counts_after (Ok a) log c = count_more c (take a.written log)
 counts_after (Err r) log c = c
 
--- the words that an accepted record used
-abbrev pub uses : Answer → Option ℕ
-uses (Ok a) = Some a.used
-uses (Err r) = None
+-- the place behind an accepted record; a refused one is not passed
+abbrev pub place_after : Answer → Place → Place
+place_after (Ok a) p = record { records = plus p.records 1; words = plus p.words a.used }
+place_after (Err r) p = p
+
+-- the words that an accepted record used, or the refusal
+abbrev pub uses : Answer → Result ℕ Refusal
+uses (Ok a) = Ok a.used
+uses (Err r) = Err r
 
 -- what the code tells of an answer and the log after it: the text is told to `out`, and `out'` is the writer then
-pub record Tells (a : Answer) (log : List ℕ) (c : Counts) (out : Writer ℕ) (words : Option ℕ) (c' : Counts) (out' : Writer ℕ) : Type 0 where
+pub record Tells (a : Answer) (log : List ℕ) (c : Counts) (p : Place) (out : Writer ℕ) (words : Result ℕ Refusal)
+    (c' : Counts) (p' : Place) (out' : Writer ℕ) : Type 0 where
   pub counts : c' ≡ counts_after a log c
+  pub place : p' ≡ place_after a p
   pub used : words ≡ uses a
   pub text : Prints out (told a log) out'
 
@@ -45,3 +56,8 @@ last_line (Err r) = refused_line r
 unfoldable pub ending : World → Counts → ℕ → List ℕ
 ending w c zero = last_line (counted_report w c)
 ending w c (suc left) = refused_line CutShort
+
+-- the refusal that it prints, if it prints one
+unfoldable pub ending_refusal : World → Counts → ℕ → Option Refusal
+ending_refusal w c zero = result_err (counted_report w c)
+ending_refusal w c (suc left) = Some CutShort

@@ -1,15 +1,18 @@
 -- A step of the study's program: all that it does between a read and a write.
-use Rattle.std.specs.Prelude.{◌≡◌, Bool, true, false, not, ◌&&◌, ◌||◌, List, ◌++◌, ℕ, ◌≤◌, ltb, eqb, length, take, drop, Result, Ok, Err}
+use Rattle.std.specs.Prelude.{◌≡◌, Bool, true, false, not, ◌&&◌, ◌||◌, List, [], ◌++◌, ℕ, ◌≤◌, ltb, eqb, cond, length, take, drop, Option, None, Some, Result, Ok, Err}
 use Rattle.log_writes.specs.Log.{Wrote}
 use Rattle.study_numbers.specs.NumberText.{text, newline}
+use Rattle.world.specs.declared.refusal.Refusal.{Refusal}
+use Rattle.study_text.specs.Text.{place_line}
+use Rattle.study_text.specs.declared.Place.{Place}
 use Rattle.pieces.specs.Pieces.{advanced, playing, study_of, fresh}
 use Rattle.pieces.specs.declared.Study.{Study}
+use Rattle.study_step.specs.declared.End.{End}
+use Rattle.study_step.specs.declared.End.TheVariants.{GoesOn, Answered, CannotRead}
 use Rattle.study_step.specs.declared.Got.{Got}
 use Rattle.study_step.specs.declared.Got.TheVariants.{Bytes, Failure, Nothing}
 use Rattle.study_step.specs.declared.Output.{Output}
 use Rattle.study_step.specs.declared.Run.{Run}
-use Rattle.study_step.specs.declared.Stream.{Stream}
-use Rattle.study_step.specs.declared.Stream.TheVariants.{StandardOutput, StandardError}
 
 -- ---- what a read gave
 
@@ -34,11 +37,21 @@ pub record Running : Type 0 where
 abbrev pub reads : Bool → ℕ → Bool
 reads ended kept = not ended && ltb kept 276
 
--- a round leaves this, and writes this text there
+-- a round leaves this, and writes these texts to standard output and standard error
 pub record Stepped : Type 0 where
   pub next : Running
-  pub stream : Stream
-  pub text : List ℕ
+  pub output : List ℕ
+  pub error : List ℕ
+  pub end : End
+
+-- on standard error stands which record was refused, where one was
+abbrev pub told_of : Place → Option Refusal → List ℕ
+told_of place None = []
+told_of place (Some refusal) = place_line place refusal
+
+-- the program ends where the report or a refusal is printed
+abbrev pub end_by : Bool → End
+end_by over = cond over Answered GoesOn
 
 -- what can be done with these bytes is done: "It keeps one world and lends it to each record's call"
 abbrev pub played : Study → List ℕ → List ℕ → Bool → Stepped
@@ -46,8 +59,9 @@ played s log bytes ended =
     let p = advanced ended (playing s log bytes) in
     record {
       next = record { study = study_of p; log = p.log; kept = p.bytes; ended = ended };
-      stream = StandardOutput;
-      text = p.text;
+      output = p.text;
+      error = told_of p.place p.refusal;
+      end = end_by p.over;
     }
 
 abbrev pub cannot_read : List ℕ
@@ -57,13 +71,14 @@ cannot_read = text "study: cannot read standard input" ++ newline
 abbrev pub failed : Running → Stepped
 failed r = record {
   next = record {
-    study = record { world = r.study.world; counts = r.study.counts; over = true };
+    study = record { world = r.study.world; counts = r.study.counts; place = r.study.place; over = true };
     log = r.log;
     kept = r.kept;
     ended = r.ended;
   };
-  stream = StandardError;
-  text = cannot_read;
+  output = [];
+  error = cannot_read;
+  end = CannotRead;
 }
 
 -- a round: the bytes that were read come behind those that were kept. A read of no byte is the input's end.
@@ -96,10 +111,11 @@ pub record Steps (run' : Run) (o : Output) (piece out piece' lent' out' : List �
   -- the next round begins with what this one leaves
   pub next : running run' lent' piece' ≡ s.next
   pub held : run'.held ≡ length s.next.kept
-  -- the kept bytes at the piece's start, the text at the buffer's, and what stands behind them stays
+  -- the kept bytes at the piece's start, and what stands behind them stays
   pub kept : Wrote piece 0 s.next.kept piece' run'.held
-  pub text : Wrote out 0 s.text out' o.count
-  -- nothing of the text is lost
-  pub fits : length s.text ≤ length out
-  pub stream : o.stream ≡ s.stream
-  pub over : o.over ≡ s.next.study.over
+  -- the texts at the buffer's start, one behind the other, and where the first ends
+  pub texts : Wrote out 0 (s.output ++ s.error) out' o.told
+  pub printed : o.printed ≡ length s.output
+  -- nothing of them is lost
+  pub fits : length (s.output ++ s.error) ≤ length out
+  pub end : o.end ≡ s.end

@@ -4,11 +4,13 @@
 ghost use Rattle.std.specs.Prelude.{◌≡◌, ◌+◌, take, cond, Some, None};
 ghost use Rattle.log_writes.specs.Log.{Wrote};
 ghost use Rattle.study_step.specs.Step.{got_of, Steps, begun, stepped, played, cannot_read, running, reading};
-ghost use Rattle.study_step.specs.Step.{reads as wants};
+ghost use Rattle.study_step.specs.Step.{told_of, end_by, reads as wants};
 
 use log_writes::Writer;
 use pieces::{Study, advance};
 use std::io;
+use study_text::{Place, put_place};
+use world::refusal::Refusal;
 
 // A run of the study: how many bytes are kept at the piece's start, and whether the input ended.
 #[derive(Clone, Copy)]
@@ -37,18 +39,21 @@ impl From<io::Result<usize>> for Got {
     }
 }
 
+// How a round ends the program: not at all, with the report or a refusal, or for a read that failed.
 #[derive(Clone, Copy)]
-pub enum Stream {
-    StandardOutput,
-    StandardError,
+pub enum End {
+    GoesOn,
+    Answered,
+    CannotRead,
 }
 
-// What is to be written: so many bytes from the buffer's start on. And whether the study is over then.
+// What is to be written: the buffer's first `printed` bytes to standard output, and those behind them, up to `told`, to
+// standard error.
 #[derive(Clone, Copy)]
 pub struct Output {
-    pub stream: Stream,
-    pub count: usize,
-    pub over: bool,
+    pub printed: usize,
+    pub told: usize,
+    pub end: End,
 }
 
 // A run of which nothing is read yet.
@@ -83,6 +88,24 @@ fn put_failure(out: &mut [u8; 65536]) -> usize
     text.at
 }
 
+// Behind the text, which record was refused, where one was. Answers where that ends.
+fn put_told(out: &mut [u8; 65536], at: usize, place: Place, refusal: Option<Refusal>) -> usize
+    ensures { Wrote out.old at (told_of place refusal) out.new result }
+{
+    let mut text = Writer { items: out, at };
+    if let Some(refusal) = refusal {
+        put_place(&mut text, place, refusal);
+    }
+    text.at
+}
+
+// How a round ends the program that read what there was.
+fn end_of(over: bool) -> End
+    ensures { result ≡ end_by over }
+{
+    if over { End::Answered } else { End::GoesOn }
+}
+
 // What can be done with the kept bytes and so many behind them.
 fn play(
     run: &mut Run,
@@ -98,9 +121,9 @@ fn play(
     let made = advance(&mut run.study, piece, end, run.ended, log, out);
     run.held = made.held;
     Output {
-        stream: Stream::StandardOutput,
-        count: made.at,
-        over: run.study.over,
+        printed: made.at,
+        told: put_told(out, made.at, run.study.place, made.refusal),
+        end: end_of(run.study.over),
     }
 }
 
@@ -127,9 +150,9 @@ pub fn step(
             run.study.over = true;
             run.held = run.held.min(piece.len());
             Output {
-                stream: Stream::StandardError,
-                count: put_failure(out),
-                over: true,
+                printed: 0,
+                told: put_failure(out),
+                end: End::CannotRead,
             }
         }
     }

@@ -36,7 +36,7 @@ lines_append [] b = refl
 lines_append (w ∷ a) b = rw (lines_append a b, append_assoc)
 
 -- what an accepted call tells is its part of the joined log: records of other kinds write no word
-tells : (w : World) (c : Call) → is_accepted (outcome w c).answer ≡ true → take (written_of (outcome w c).answer) (outcome w c).log ≡ told w c
+pub tells : (w : World) (c : Call) → is_accepted (outcome w c).answer ≡ true → take (written_of (outcome w c).answer) (outcome w c).log ≡ told w c
 unfolding outcome
 tells w c a = rw a (go (eqb (kind_of (head_word c)) 12) refl)
   where
@@ -72,12 +72,12 @@ said_joined (c ∷ cs) w us left a = by (outcome w c).answer refl (λ vs. said_j
         (glue (take b.written o.log) (joined o.world cs) us (λ (vs : List ℕ). ending (world_after o.world cs) (count_more no_counts vs) (length left)))
     by (Err r) e i = no (rw e at a.0)
 
-none_counted : count_more no_counts [] ≡ no_counts
+pub none_counted : count_more no_counts [] ≡ no_counts
 unfolding count_more counts_of how_many any_unknown plus
 none_counted = refl
 
 -- no joined log comes near 2 to the 64 words
-short : (calls : List Call) → length (joined empty_world calls) < 2 ^ 64
+pub short : (calls : List Call) → length (joined empty_world calls) < 2 ^ 64
 unfolding JoinedLog
 short calls = omega (arith, (joined_log empty_world examples.empty calls).size)
 

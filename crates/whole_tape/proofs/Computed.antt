@@ -38,16 +38,17 @@ use Rattle.record.specs.Record.{tick_once, record_of}
 use lib.Count.{ones_in, ones}
 use Rattle.laws.specs.Counting.{how_many}
 use Rattle.report.specs.Report as Report
-use Rattle.study_text.specs.Text.{words_of, report_line}
+use Rattle.study_text.specs.Text.{words_of, report_line, refused_line, place_line}
 use Rattle.study_numbers.specs.NumberText.{word_line, word_lines, decimal_to}
-use Rattle.play.specs.Play.{ending}
+use Rattle.play.specs.Play.{ending, ending_refusal}
 use Rattle.record.specs.Calls.{outcome, next}
 use Rattle.whole_tape.specs.Study.{made, said, study_text}
 use Rattle.whole_tape.specs.Certified.{AllAccepted}
 use Rattle.pieces.specs.Pieces.{next_record, play_to, close, advanced}
 use Rattle.study_step.specs.Step.{stepped}
-use Rattle.whole_tape.specs.WholeTape.{after_rounds, written, tape_of, InOrder, AsWanted}
-use Rattle.whole_tape.specs.Example.{PaperTape, PaperCalls, PaperRounds}
+use Rattle.whole_tape.specs.Place.{refusal_of, accepted_calls, words_used, error_text}
+use Rattle.whole_tape.specs.WholeTape.{after_rounds, output_of, error_of, tape_of, InOrder, AsWanted}
+use Rattle.whole_tape.specs.Example.{PaperTape, PaperCalls, PaperRounds, SecondStart, OneByteTold}
 
 pub paper_tape_lem : PaperTape
 unfolding PaperTape study_text made said outcome ending words_of word_line word_lines decimal_to report_line Report.counts_of Report.count_more Report.counted_report how_many Report.any_unknown Report.waiting_in kind_of n_of s_of v_of ones_in ones record_of Tape.record_of tick_once decoded float_at raw_zero_at serves_count serves_outside serves_to line_fields_outside line_floats_outside line_kind_of line_record load_line load_stop load_car start send set_mode set_manual_speed queue_command any_to line_broken car_broken rider_broken counts_broken broken room_of empty_world tick_world tick_words moved move_of doors_world doors_words doored door_of clear_one clear_word clear_to clear_words_to at_stop traversing_to has_rider_traversing work_to work_words_to process_door_commands command_words count_in start_of end_of between unless_target without emit_range passing_words riders_to queued_to direction_from_remaining_work popped plus line_of run_to run_cars word tick_word position_before stop_before inserted sorted_stops leader_to loop_leader_pos stands_at first_standing loop_next_stop_for_car find_stop_at_position called decelerated accelerated new_velocity tick_movement tick_movement_cyclic headway_clamp_target manual_velocity wrap_position forward_distance abs signum is_finite max clamp rem_euclid of_bits add sub mul div rem neg lt le eq is_nan
@@ -58,5 +59,13 @@ unfolding made AllAccepted outcome next ending words_of word_line word_lines dec
 paper_calls = record { ten = refl; accepted = (refl, (refl, (refl, (refl, (refl, (refl, (refl, (refl, (refl, (refl, tt)))))))))); none = refl }
 
 pub paper_rounds : PaperRounds
-unfolding InOrder AsWanted after_rounds written tape_of stepped advanced play_to next_record close ending words_of word_line word_lines decimal_to report_line Report.counts_of Report.count_more Report.counted_report how_many Report.any_unknown Report.waiting_in kind_of n_of s_of v_of ones_in ones record_of Tape.record_of tick_once decoded float_at raw_zero_at serves_count serves_outside serves_to line_fields_outside line_floats_outside line_kind_of line_record load_line load_stop load_car start send set_mode set_manual_speed queue_command any_to line_broken car_broken rider_broken counts_broken broken room_of empty_world tick_world tick_words moved move_of doors_world doors_words doored door_of clear_one clear_word clear_to clear_words_to at_stop traversing_to has_rider_traversing work_to work_words_to process_door_commands command_words count_in start_of end_of between unless_target without emit_range passing_words riders_to queued_to direction_from_remaining_work popped plus line_of run_to run_cars word tick_word position_before stop_before inserted sorted_stops leader_to loop_leader_pos stands_at first_standing loop_next_stop_for_car find_stop_at_position called decelerated accelerated new_velocity tick_movement tick_movement_cyclic headway_clamp_target manual_velocity wrap_position forward_distance abs signum is_finite max clamp rem_euclid of_bits add sub mul div rem neg lt le eq is_nan
+unfolding InOrder AsWanted after_rounds output_of error_of tape_of stepped advanced play_to next_record close ending ending_refusal words_of word_line word_lines decimal_to report_line Report.counts_of Report.count_more Report.counted_report how_many Report.any_unknown Report.waiting_in kind_of n_of s_of v_of ones_in ones record_of Tape.record_of tick_once decoded float_at raw_zero_at serves_count serves_outside serves_to line_fields_outside line_floats_outside line_kind_of line_record load_line load_stop load_car start send set_mode set_manual_speed queue_command any_to line_broken car_broken rider_broken counts_broken broken room_of empty_world tick_world tick_words moved move_of doors_world doors_words doored door_of clear_one clear_word clear_to clear_words_to at_stop traversing_to has_rider_traversing work_to work_words_to process_door_commands command_words count_in start_of end_of between unless_target without emit_range passing_words riders_to queued_to direction_from_remaining_work popped plus line_of run_to run_cars word tick_word position_before stop_before inserted sorted_stops leader_to loop_leader_pos stands_at first_standing loop_next_stop_for_car find_stop_at_position called decelerated accelerated new_velocity tick_movement tick_movement_cyclic headway_clamp_target manual_velocity wrap_position forward_distance abs signum is_finite max clamp rem_euclid of_bits add sub mul div rem neg lt le eq is_nan
 paper_rounds = record { in_order = (λ _. refl, (λ _. refl, tt)); as_wanted = (refl, (refl, tt)); over = refl; output = refl; error = refl }
+
+pub second_start_lem : SecondStart
+unfolding error_text refusal_of accepted_calls words_used made outcome ending_refusal refused_line place_line error_of stepped advanced play_to next_record close ending words_of word_line word_lines decimal_to report_line Report.counts_of Report.count_more Report.counted_report how_many Report.any_unknown Report.waiting_in kind_of n_of s_of v_of ones_in ones record_of Tape.record_of tick_once decoded float_at raw_zero_at serves_count serves_outside serves_to line_fields_outside line_floats_outside line_kind_of line_record load_line load_stop load_car start send set_mode set_manual_speed queue_command any_to line_broken car_broken rider_broken counts_broken broken room_of empty_world tick_world tick_words moved move_of doors_world doors_words doored door_of clear_one clear_word clear_to clear_words_to at_stop traversing_to has_rider_traversing work_to work_words_to process_door_commands command_words count_in start_of end_of between unless_target without emit_range passing_words riders_to queued_to direction_from_remaining_work popped plus line_of run_to run_cars word tick_word position_before stop_before inserted sorted_stops leader_to loop_leader_pos stands_at first_standing loop_next_stop_for_car find_stop_at_position called decelerated accelerated new_velocity tick_movement tick_movement_cyclic headway_clamp_target manual_velocity wrap_position forward_distance abs signum is_finite max clamp rem_euclid of_bits add sub mul div rem neg lt le eq is_nan
+second_start_lem = record { error = refl; rounds = refl }
+
+pub one_byte_told : OneByteTold
+unfolding OneByteTold error_text refusal_of accepted_calls words_used made ending_refusal words_of place_line decimal_to plus
+one_byte_told = refl

@@ -34,7 +34,7 @@ still_prints p more = p.text ++ cond p.over [] (printed (suc (length (p.bytes ++
 four_more : (n : ℕ) → 4 * suc n ≡ suc (suc (suc (suc (4 * n))))
 four_more n = omega arith
 
-words_joined : (b m : List ℕ) → words_of (b ++ m) ≡ words_of b ++ words_of (drop (4 * length (words_of b)) b ++ m)
+pub words_joined : (b m : List ℕ) → words_of (b ++ m) ≡ words_of b ++ words_of (drop (4 * length (words_of b)) b ++ m)
 unfolding words_of
 words_joined [] m = refl
 words_joined (x ∷ []) m = refl
@@ -64,7 +64,7 @@ rest_same (Err r) b x y h = refl
 abbrev made_then : List ℕ → List ℕ → Made → Made
 made_then log b x = cond (eqb (length (words_of b)) 0) (record { calls = []; left = b }) (made_first (record { words = words_of b; log = log }) x)
 
-made_enough : (n m : ℕ) (w : World) (log b : List ℕ) → length (words_of b) < n → length (words_of b) < m → made n w log b ≡ made m w log b
+pub made_enough : (n m : ℕ) (w : World) (log b : List ℕ) → length (words_of b) < n → length (words_of b) < m → made n w log b ≡ made m w log b
 unfolding made
 made_enough zero m w log b h g = absurd (omega arith)
 made_enough (suc n) zero w log b h g = absurd (omega arith)
@@ -83,7 +83,7 @@ enough n m w c log b h g = ap (λ (x : Made). said w c x.calls x.left) (made_eno
 -- ---- a record
 
 -- the words at hand begin with the record that all begin with
-same_record : (ended : Bool) (p : Playing) (more : List ℕ) → ready ended (length (words_of p.bytes)) ≡ true → (ended ≡ true → more ≡ [])
+pub same_record : (ended : Bool) (p : Playing) (more : List ℕ) → ready ended (length (words_of p.bytes)) ≡ true → (ended ≡ true → more ≡ [])
     → record_of p.world (words_of (p.bytes ++ more)) p.log ≡ record_of p.world (words_of p.bytes) p.log
 same_record ended p more e h = go (leb 69 (length (words_of p.bytes))) refl
   where
@@ -91,7 +91,7 @@ same_record ended p more e h = go (leb 69 (length (words_of p.bytes))) refl
     go true k = rw words_joined (record_joined p.world (words_of p.bytes) _ p.log (leb-true 69 (length (words_of p.bytes)) k))
     go false k = let n : more ≡ [] = h (and_left ended _ (rw k at e)) in rw (n, append-nil)
 
-some_words : (ended : Bool) (n : ℕ) → ready ended n ≡ true → 0 < n
+pub some_words : (ended : Bool) (n : ℕ) → ready ended n ≡ true → 0 < n
 some_words ended n e = go (leb 69 n) refl
   where
     go : (b : Bool) → leb 69 n ≡ b → 0 < n

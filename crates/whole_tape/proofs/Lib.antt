@@ -1,9 +1,11 @@
 pub mod Ignoring
 pub mod Joining
 pub mod Ending
+pub mod Telling
 pub mod Rounds
 pub mod Computed
 pub mod Certifying
 pub mod Fitting
 pub mod Lines
 pub mod Printing
+pub mod Placing

@@ -59,7 +59,7 @@ module _ (calls : List Call) where
   totals = (with_manual empty_world examples.empty calls).totals
 
   -- the report is not refused
-  reported : report_of last log ≡ Ok (totals_of last (counts_of log))
+  pub reported : report_of last log ≡ Ok (totals_of last (counts_of log))
   unfolding report_of counted_report counts_of
   reported = rw (whole, known) refl
 

@@ -11,13 +11,15 @@ use lib.ListN.{length, length-append}
 use Rattle.laws.proofs.Bools.{no, and_left}
 use Rattle.laws.proofs.Counting.{bit_small}
 use Rattle.laws.specs.Numbers.{bit}
-use Rattle.pieces.specs.Pieces.{Playing, playing}
+use Rattle.pieces.specs.Pieces.{Playing, playing, advanced}
 use Rattle.pieces.specs.declared.Study.{Study}
 use Rattle.study_step.specs.Step.{Reading, Read, Failed, Unasked, Running, reads, played, stepped}
-use Rattle.study_step.specs.declared.Stream.TheVariants.{StandardOutput, StandardError}
-use Rattle.whole_tape.specs.Study.{printed, study_text}
-use Rattle.whole_tape.specs.WholeTape.{begun, after_rounds, written, bytes_of, tape_of, InOrder, is_read, AsWanted, goes_to, Beginning, Over, Ends, InPieces}
+use Rattle.whole_tape.specs.Place.{error_text}
+use Rattle.whole_tape.specs.Study.{made_of, study_text}
+use Rattle.whole_tape.specs.Study as Study
+use Rattle.whole_tape.specs.WholeTape.{begun, after_rounds, output_of, error_of, bytes_of, tape_of, InOrder, NoneFailed, is_read, AsWanted, Beginning, Over, Ends, InPieces}
 use Rattle.whole_tape.proofs.Joining.{still_prints, advanced_prints}
+use Rattle.whole_tape.proofs.Telling.{said, still_says, advanced_says, advanced_quiet, handed_on, begins_says}
 use Rattle.whole_tape.proofs.Ending.{advanced_few, advanced_over, unasked}
 
 -- a round's study, with nothing printed yet
@@ -62,14 +64,14 @@ unfolding after_rounds
 over_stays r [] o = o
 over_stays r (g ∷ gs) o = over_stays (stepped r g).next gs (over_next r g o)
 
-over_silent : (r : Running) (g : Reading) → r.study.over ≡ true → goes_to StandardOutput (stepped r g).stream (stepped r g).text ≡ []
+over_silent : (r : Running) (g : Reading) → r.study.over ≡ true → (stepped r g).output ≡ []
 unfolding stepped
 over_silent r (Read bytes) o = rw (advanced_over (r.ended || eqb (length bytes) 0) (playing r.study r.log (r.kept ++ bytes)) o)
 over_silent r Unasked o = rw (advanced_over r.ended (resting r) o)
 over_silent r Failed o = refl
 
-silent : (r : Running) (gs : List Reading) → r.study.over ≡ true → written StandardOutput r gs ≡ []
-unfolding written
+silent : (r : Running) (gs : List Reading) → r.study.over ≡ true → output_of r gs ≡ []
+unfolding output_of
 silent r [] o = refl
 silent r (g ∷ gs) o = rw (over_silent r g o) (silent (stepped r g).next gs (over_next r g o))
 
@@ -77,7 +79,7 @@ silent r (g ∷ gs) o = rw (over_silent r g o) (silent (stepped r g).next gs (ov
 
 -- what is done with the bytes at hand writes a part of what was still to be printed
 played_prints : (s : Study) (log bytes : List ℕ) (ended : Bool) (more : List ℕ) → (ended ≡ true → more ≡ [])
-    → (played s log bytes ended).text ++ still_prints (resting (played s log bytes ended).next) more ≡ still_prints (playing s log bytes) more
+    → (played s log bytes ended).output ++ still_prints (resting (played s log bytes ended).next) more ≡ still_prints (playing s log bytes) more
 unfolding still_prints
 played_prints s log bytes ended more h = advanced_prints ended (playing s log bytes) more h
 
@@ -87,8 +89,8 @@ read_prints s log kept bytes more = rw append_assoc
 
 record Writes (r : Running) (gs : List Reading) (more : List ℕ) : Type 0 where
   rest : List ℕ
-  joined : written StandardOutput r gs ++ rest ≡ still_prints (resting r) (tape_of gs more)
-  all : (after_rounds r gs).study.over ≡ true → written StandardError r gs ≡ [] → rest ≡ []
+  joined : output_of r gs ++ rest ≡ still_prints (resting r) (tape_of gs more)
+  all : NoneFailed gs → (after_rounds r gs).study.over ≡ true → rest ≡ []
 
 over_prints : (p : Playing) (more : List ℕ) → p.text ≡ [] → p.over ≡ true → still_prints p more ≡ []
 unfolding still_prints
@@ -97,18 +99,18 @@ over_prints p more t o = rw (t, o)
 -- a round that plays, and those that follow
 after_played : (s : Study) (log bytes : List ℕ) (ended : Bool) (tape written rest : List ℕ) → (ended ≡ true → tape ≡ [])
     → written ++ rest ≡ still_prints (resting (played s log bytes ended).next) tape
-    → ((played s log bytes ended).text ++ written) ++ rest ≡ still_prints (playing s log bytes) tape
+    → ((played s log bytes ended).output ++ written) ++ rest ≡ still_prints (playing s log bytes) tape
 after_played s log bytes ended tape written rest h e =
-    append_assoc (played s log bytes ended).text written rest
-    ∙ ap (λ (t : List ℕ). (played s log bytes ended).text ++ t) e
+    append_assoc (played s log bytes ended).output written rest
+    ∙ ap (λ (t : List ℕ). (played s log bytes ended).output ++ t) e
     ∙ played_prints s log bytes ended tape h
 
 writes : (r : Running) (gs : List Reading) (more : List ℕ) → Settled r (tape_of gs more) → InOrder gs more → Writes r gs more
-unfolding written after_rounds tape_of InOrder stepped
+unfolding output_of after_rounds tape_of InOrder NoneFailed stepped
 writes r [] more h k = record {
   rest = still_prints (resting r) more;
   joined = refl;
-  all = λ o e. over_prints (resting r) more refl o;
+  all = λ f o. over_prints (resting r) more refl o;
 }
 writes r (Read bytes ∷ gs) more h k =
     let ended = r.ended || eqb (length bytes) 0 in
@@ -118,40 +120,81 @@ writes r (Read bytes ∷ gs) more h k =
     record {
       rest = w.rest;
       joined = after_played r.study r.log (r.kept ++ bytes) ended tape _ w.rest none w.joined ∙ read_prints r.study r.log r.kept bytes tape;
-      all = w.all;
+      all = λ f o. w.all f.1 o;
     }
 writes r (Unasked ∷ gs) more h k =
     let w = writes (stepped r Unasked).next gs more h k.1 in
     record {
       rest = w.rest;
       joined = after_played r.study r.log r.kept r.ended (tape_of gs more) _ w.rest h w.joined;
-      all = w.all;
+      all = λ f o. w.all f.1 o;
     }
 writes r (Failed ∷ gs) more h k = record {
   rest = still_prints (resting r) (tape_of gs more);
   joined = rw (silent (stepped r Failed).next gs refl);
-  all = λ o e. absurd (not_none e);
+  all = λ f o. absurd (f.0 refl);
 }
 
 unsettled : {tape : List ℕ} → Settled begun tape
 unsettled e = absurd (no e)
 
 begun_prints : (tape : List ℕ) → still_prints (resting begun) tape ≡ study_text tape
-unfolding still_prints study_text printed
+unfolding still_prints study_text Study.printed
 begun_prints tape = refl
 
 beginning : Beginning
 unfolding Beginning
 beginning gs more k = let w = writes begun gs more unsettled k in record { rest = w.rest; joined = w.joined ∙ begun_prints (tape_of gs more) }
 
+-- ---- what is said on standard error
+
+read_says : (s : Study) (log kept bytes more : List ℕ) → still_says (playing s log (kept ++ bytes)) more ≡ still_says (playing s log kept) (bytes ++ more)
+unfolding still_says
+read_says s log kept bytes more = rw append_assoc
+
+over_says : (s : Study) (log kept more : List ℕ) → s.over ≡ true → still_says (playing s log kept) more ≡ []
+unfolding still_says
+over_says s log kept more o = rw o
+
+-- a round that plays says a part of it
+played_says : (s : Study) (log bytes : List ℕ) (ended : Bool) (more later : List ℕ) → (ended ≡ true → more ≡ [])
+    → later ≡ still_says (resting (played s log bytes ended).next) more
+    → (played s log bytes ended).error ++ later ≡ still_says (playing s log bytes) more
+played_says s log bytes ended more later h e =
+    let p = advanced ended (playing s log bytes) in
+    ap (λ (t : List ℕ). (played s log bytes ended).error ++ t) e
+    ∙ handed_on p more (advanced_quiet ended (playing s log bytes) refl)
+    ∙ advanced_says ended (playing s log bytes) more h
+
+says : (r : Running) (gs : List Reading) (more : List ℕ) → Settled r (tape_of gs more) → InOrder gs more → NoneFailed gs
+    → (after_rounds r gs).study.over ≡ true → error_of r gs ≡ still_says (resting r) (tape_of gs more)
+unfolding error_of after_rounds tape_of InOrder NoneFailed stepped
+says r [] more h k f o = sym (over_says r.study r.log r.kept more o)
+says r (Read bytes ∷ gs) more h k f o =
+    let ended = r.ended || eqb (length bytes) 0 in
+    let tape = tape_of gs more in
+    let none = at_its_end r.ended bytes tape h k.0 in
+    played_says r.study r.log (r.kept ++ bytes) ended tape _ none (says (stepped r (Read bytes)).next gs more none k.1 f.1 o)
+    ∙ read_says r.study r.log r.kept bytes tape
+says r (Unasked ∷ gs) more h k f o =
+    played_says r.study r.log r.kept r.ended (tape_of gs more) _ h (says (stepped r Unasked).next gs more h k.1 f.1 o)
+says r (Failed ∷ gs) more h k f o = absurd (f.0 refl)
+
+begun_says : (tape : List ℕ) → still_says (resting begun) tape ≡ error_text tape
+unfolding still_says said
+begun_says tape = begins_says tape
+
 all_over : Over
 unfolding Over
-all_over gs more k o e =
+all_over gs more k f o =
     let w = writes begun gs more unsettled k in
-    sym (append-nil (written StandardOutput begun gs))
-    ∙ ap (λ (t : List ℕ). written StandardOutput begun gs ++ t) (sym (w.all o e))
-    ∙ w.joined
-    ∙ begun_prints (tape_of gs more)
+    record {
+      output = sym (append-nil (output_of begun gs))
+          ∙ ap (λ (t : List ℕ). output_of begun gs ++ t) (sym (w.all f o))
+          ∙ w.joined
+          ∙ begun_prints (tape_of gs more);
+      error = says begun gs more unsettled k f o ∙ begun_says (tape_of gs more);
+    }
 
 -- ---- that it ends
 

@@ -5,8 +5,8 @@ use Rattle.world.specs.World.{empty_world}
 use Rattle.whole_tape.specs.Study.{made_of, study_text}
 use Rattle.whole_tape.specs.Certified.{AllAccepted}
 use Rattle.study_step.specs.Step.{Reading, Read}
-use Rattle.study_step.specs.declared.Stream.TheVariants.{StandardOutput, StandardError}
-use Rattle.whole_tape.specs.WholeTape.{begun, after_rounds, written, InOrder, AsWanted}
+use Rattle.whole_tape.specs.Place.{error_text}
+use Rattle.whole_tape.specs.WholeTape.{begun, after_rounds, output_of, error_of, InOrder, AsWanted}
 
 -- a word's bytes, the lowest first
 abbrev pub little_endian : List ℕ → List ℕ
@@ -58,5 +58,24 @@ pub record PaperRounds : Type 0 where
   pub in_order : InOrder paper_reads []
   pub as_wanted : AsWanted begun paper_reads
   pub over : (after_rounds begun paper_reads).study.over ≡ true
-  pub output : written StandardOutput begun paper_reads ≡ paper_output
-  pub error : written StandardError begun paper_reads ≡ []
+  pub output : output_of begun paper_reads ≡ paper_output
+  pub error : error_of begun paper_reads ≡ []
+
+-- ---- with a second start behind it
+
+abbrev pub second_start : List ℕ
+second_start = little_endian (paper_tape ++ (0xd0000000 ∷ []))
+
+-- it is the tape's eleventh record, behind 40 words
+abbrev pub second_start_error : List ℕ
+second_start_error =
+    text "record 11, at word 40: refused 6: kinds 1, 2, 3 after start, 5 to C before it, a second start" ++ newline
+
+pub record SecondStart : Type 0 where
+  pub error : error_text second_start ≡ second_start_error
+  pub rounds : error_of begun (Read second_start ∷ Read [] ∷ []) ≡ second_start_error
+
+-- ---- a tape of one byte: no word, and so no record, is there
+
+unfoldable pub OneByteTold : Type 0
+OneByteTold = error_text (0 ∷ []) ≡ text "record 1, at word 0: refused 1: no word, or a body cut short" ++ newline

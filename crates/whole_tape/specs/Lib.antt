@@ -1,4 +1,5 @@
 pub mod Study
+pub mod Place
 pub mod WholeTape
 pub mod Certified
 pub mod Example

@@ -4,8 +4,7 @@ use Rattle.world.specs.declared.refusal.Refusal.TheVariants.{CutShort}
 use Rattle.tape.specs.Tape.{decoded}
 use Rattle.study_step.specs.Step as Step
 use Rattle.study_step.specs.Step.{Reading, Read, Failed, Unasked, Running, running, reads, stepped}
-use Rattle.study_step.specs.declared.Stream.{Stream}
-use Rattle.study_step.specs.declared.Stream.TheVariants.{StandardOutput, StandardError}
+use Rattle.whole_tape.specs.Place.{error_text}
 use Rattle.whole_tape.specs.Study.{study_text}
 
 -- "Words after the record are ignored": what follows words that are not cut short changes nothing
@@ -26,16 +25,15 @@ unfoldable pub after_rounds : Running → List Reading → Running
 after_rounds r [] = r
 after_rounds r (g ∷ gs) = after_rounds (stepped r g).next gs
 
--- what they write to a stream: of each round, its text if it goes there
-abbrev pub goes_to : Stream → Stream → List ℕ → List ℕ
-goes_to StandardOutput StandardOutput text = text
-goes_to StandardOutput StandardError text = []
-goes_to StandardError StandardOutput text = []
-goes_to StandardError StandardError text = text
+-- what they write to standard output
+unfoldable pub output_of : Running → List Reading → List ℕ
+output_of r [] = []
+output_of r (g ∷ gs) = (stepped r g).output ++ output_of (stepped r g).next gs
 
-unfoldable pub written : Stream → Running → List Reading → List ℕ
-written to r [] = []
-written to r (g ∷ gs) = goes_to to (stepped r g).stream (stepped r g).text ++ written to (stepped r g).next gs
+-- and to standard error
+unfoldable pub error_of : Running → List Reading → List ℕ
+error_of r [] = []
+error_of r (g ∷ gs) = (stepped r g).error ++ error_of (stepped r g).next gs
 
 -- ---- the tape that they read
 
@@ -53,6 +51,10 @@ tape_of (g ∷ gs) more = bytes_of g ++ tape_of gs more
 unfoldable pub InOrder : List Reading → List ℕ → Type 0
 InOrder [] more = Unit {0}
 InOrder (g ∷ gs) more = (g ≡ Read [] → tape_of gs more ≡ []) × InOrder gs more
+
+unfoldable pub NoneFailed : List Reading → Type 0
+NoneFailed [] = Unit {0}
+NoneFailed (g ∷ gs) = (g ≡ Failed → ⊥) × NoneFailed gs
 
 -- the program reads in the rounds that want more input, and in no other
 abbrev pub is_read : Reading → Bool
@@ -73,13 +75,17 @@ pub record BeginningOf (whole part : List ℕ) : Type 0 where
 -- whatever the reads give, what was written to standard output is a beginning of the whole tape's text
 unfoldable pub Beginning : Type 0
 Beginning = (gs : List Reading) (more : List ℕ) → InOrder gs more
-    → BeginningOf (study_text (tape_of gs more)) (written StandardOutput begun gs)
+    → BeginningOf (study_text (tape_of gs more)) (output_of begun gs)
 
--- it is all of it, whatever else the input holds, once the study is over with nothing on standard error
+-- it is all of it, whatever else the input holds, once the study is over and no read failed; and on standard error then
+-- stands which record was refused and why, where one was, and nothing else
+pub record AllWritten (tape : List ℕ) (gs : List Reading) : Type 0 where
+  pub output : output_of begun gs ≡ study_text tape
+  pub error : error_of begun gs ≡ error_text tape
+
 unfoldable pub Over : Type 0
-Over = (gs : List Reading) (more : List ℕ) → InOrder gs more
-    → (after_rounds begun gs).study.over ≡ true → written StandardError begun gs ≡ []
-    → written StandardOutput begun gs ≡ study_text (tape_of gs more)
+Over = (gs : List Reading) (more : List ℕ) → InOrder gs more → NoneFailed gs
+    → (after_rounds begun gs).study.over ≡ true → AllWritten (tape_of gs more) gs
 
 -- it is over after two rounds for each byte of the tape, and two
 unfoldable pub Ends : Type 0

@@ -6,7 +6,8 @@ ghost use Rattle.whole_tape.specs.WholeTape.{Ignored, Longest, InPieces};
 ghost use Rattle.whole_tape.specs.Certified.{Certified};
 ghost use Rattle.whole_tape.specs.NeverShort.{NeverShort};
 ghost use Rattle.whole_tape.specs.PrintedTotals.{PrintedTotals, OneByte};
-ghost use Rattle.whole_tape.specs.Example.{PaperTape, PaperCalls, PaperRounds};
+ghost use Rattle.whole_tape.specs.Place.{Places};
+ghost use Rattle.whole_tape.specs.Example.{PaperTape, PaperCalls, PaperRounds, SecondStart, OneByteTold};
 
 // Carries the claims.
 #[tactic(auto, using(crate::proofs::Ignoring::ignored, crate::proofs::Ignoring::longest, crate::proofs::Rounds::in_pieces, crate::proofs::Certifying::certified, crate::proofs::Computed::paper_tape_lem, crate::proofs::Computed::paper_calls, crate::proofs::Computed::paper_rounds))]
@@ -28,6 +29,14 @@ pub fn never_short() -> bool
 #[tactic(auto, using(crate::proofs::Printing::printed_totals, crate::proofs::Printing::one_byte))]
 pub fn printed_totals() -> bool
     ensures { (result ≡ true) × PrintedTotals × OneByte }
+{
+    true
+}
+
+// Carries the claims about the place at which a tape is refused, and about two tapes that are.
+#[tactic(auto, using(crate::proofs::Placing::places, crate::proofs::Computed::second_start_lem, crate::proofs::Computed::one_byte_told))]
+pub fn told_places() -> bool
+    ensures { (result ≡ true) × Places × SecondStart × OneByteTold }
 {
     true
 }

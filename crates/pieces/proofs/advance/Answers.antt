@@ -8,10 +8,10 @@ returns c =
     let a = c.args in
     let m = c.min-end in
     let w = c.new-text in
-    let r = c.play_bytes-used in
-    let k = c.close-study in
+    let r = c.play_bytes-played in
+    let k = c.close-refusal in
     let t = c.keep in
-    advances a.piece.now a.out.now r.new.log _ t.new.bytes w.result r.new.out k.new.out w.ensures.items w.ensures.at (search rules) m.result a.ended r.new.study r.result k.result t.result
+    advances a.piece.now a.out.now r.new.log _ t.new.bytes w.result r.new.out k.new.out w.ensures.items w.ensures.at (search rules) m.result a.ended r.new.study r.result k.new.study k.result t.result
     a.study.now
     a.log.now
     a.held

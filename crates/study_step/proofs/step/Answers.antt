@@ -32,8 +32,8 @@ returns-in-Failure c =
       next = leaves refl refl (kept_again piece held c.min-run.result clipped);
       held = simp length-take clipped;
       kept = kept_there piece held c.min-run.result clipped;
-      text = c.put_failure.ensures;
+      texts = c.put_failure.ensures;
+      printed = refl;
       fits = omega (arith, c.told-out);
-      stream = refl;
-      over = refl;
+      end = refl;
     })

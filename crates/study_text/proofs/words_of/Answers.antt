@@ -1,5 +1,5 @@
 -- `study_text::words_of`: the words so far and one more, and all of them. Assumes nothing.
-use Rattle.std.proofs.Common.{rules, [], ◌<◌, length, w32, arith}
+use Rattle.std.proofs.Common.{[], ◌<◌, length, w32, arith}
 use Rattle.std.proofs.lemmas.List.{take_all, map_more}
 use Rattle.std.specs.Int.{from_le_bytes}
 use Rattle.log_writes.proofs.Telling.{told_also}

@@ -3,7 +3,7 @@
 use std::collections::BTreeMap;
 use std::fs::{self, File};
 use std::io;
-use std::process::{Command, Stdio};
+use std::process::Command;
 
 use crate::study::{Studied, study};
 use crate::{limits, tapes};
@@ -79,17 +79,23 @@ pub fn compare(mut program: Command, seed: u64, count: u64, folder: &str) -> io:
         let studied = study(&tape.bytes, |_, _| {});
         totals.add(tape.kind, &studied);
         fs::write(&input, &tape.bytes)?;
-        let output = program
-            .stdin(File::open(&input)?)
-            .stderr(Stdio::inherit())
-            .output()?;
-        if output.stdout != studied.text || !output.status.success() {
+        let output = program.stdin(File::open(&input)?).output()?;
+        let told = output.stderr.starts_with(studied.told.as_bytes())
+            && output.stderr.is_empty() == studied.told.is_empty();
+        if output.stdout != studied.text || !told || !output.status.success() {
             let kept = format!("{folder}/seed-{seed}-number-{number}.tape");
             fs::rename(&input, &kept)?;
             totals.differing += 1;
             if totals.differing <= SHOWN {
                 println!("{kept}: {}, ours {}", tape.kind, output.status);
                 show(&studied.text, &output.stdout);
+                if !told {
+                    let ours = String::from_utf8_lossy(&output.stderr);
+                    println!(
+                        "  on standard error, ours {ours:?}, Rust {:?}",
+                        studied.told
+                    );
+                }
             }
         }
     }
