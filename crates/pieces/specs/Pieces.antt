@@ -26,7 +26,7 @@ pub record Playing : Type 0 where
   pub bytes : List ℕ
   -- what is printed and not yet written out
   pub text : List ℕ
-  -- the report or a refusal is printed
+  -- the report or a refusal is printed, or the input could not be read
   pub over : Bool
   -- the refusal that is printed, if one is
   pub refusal : Option Refusal

@@ -240,7 +240,7 @@ ends_from r (g ∷ gs) more w h =
 
 ends : Ends
 unfolding Ends
-ends gs more k w h = ends_from begun gs more w (omega (arith, h))
+ends gs more w h = ends_from begun gs more w (omega (arith, h))
 
 pub in_pieces : InPieces
 in_pieces = record { beginning = beginning; over = all_over; ends = ends }

@@ -89,7 +89,7 @@ Over = (gs : List Reading) (more : List ℕ) → InOrder gs more → NoneFailed 
 
 -- it is over after two rounds for each byte of the tape, and two
 unfoldable pub Ends : Type 0
-Ends = (gs : List Reading) (more : List ℕ) → InOrder gs more → AsWanted begun gs
+Ends = (gs : List Reading) (more : List ℕ) → AsWanted begun gs
     → 2 + 2 * length (tape_of gs more) ≤ length gs → (after_rounds begun gs).study.over ≡ true
 
 pub record InPieces : Type 0 where
