@@ -19,6 +19,7 @@ use Rattle.report.specs.declared.Counts.{Counts}
 use Rattle.study_text.specs.Text.{word, words_of}
 use Rattle.play.specs.Play.{told, counts_after}
 use Rattle.pieces.specs.Pieces.{Playing, next_record, ready, goes, play_to, ends, closed, close, advanced}
+use Rattle.whole_tape.proofs.AtHand.{by_records}
 use Rattle.pieces.proofs.Sizes.{words_drop, words_few}
 use Rattle.laws.proofs.Bools.{and_left, and_right}
 use Rattle.whole_tape.specs.Study.{Made, made_first, unless_refused, made, goes_on, said, printed}
@@ -145,28 +146,18 @@ next_prints ended p more e h =
 
 -- ---- what is at hand
 
-play_prints : (n : ℕ) (ended : Bool) (p : Playing) (more : List ℕ) → (ended ≡ true → more ≡ []) → still_prints (play_to n ended p) more ≡ still_prints p more
-unfolding play_to
-play_prints zero ended p more h = refl
-play_prints (suc n) ended p more h = go (goes ended p.over (length (words_of p.bytes)) (length p.text)) refl (play_prints n ended (next_record p) more h)
-  where
-    go : (b : Bool) → goes ended p.over (length (words_of p.bytes)) (length p.text) ≡ b → still_prints (play_to n ended (next_record p)) more ≡ still_prints (next_record p) more
-        → still_prints (cond b (play_to n ended (next_record p)) p) more ≡ still_prints p more
-    go true e i = i ∙ next_prints ended p more e h
-    go false e i = refl
-
-close_prints : (ended : Bool) (p : Playing) (more : List ℕ) → (ended ≡ true → more ≡ []) → still_prints (close ended p) more ≡ still_prints p more
-unfolding close still_prints printed made said
-close_prints ended p more h = go (ends ended p.over (length (words_of p.bytes)) (length p.text)) refl
-  where
-    go : (b : Bool) → ends ended p.over (length (words_of p.bytes)) (length p.text) ≡ b → still_prints (cond b (closed p) p) more ≡ still_prints p more
-    go false e = refl
-    go true e =
-        let k = and_right ended _ e in
-        let stands : p.over ≡ false = not-true p.over (and_left (not p.over) _ k) in
-        let none : eqb (length (words_of p.bytes)) 0 ≡ true = and_left (eqb (length (words_of p.bytes)) 0) _ (and_right (not p.over) _ k) in
-        rw (h (and_left ended _ e), append-nil, stands, append-nil p.bytes, none)
+closed_prints : (ended : Bool) (p : Playing) (more : List ℕ)
+    → ends ended p.over (length (words_of p.bytes)) (length p.text) ≡ true
+    → (ended ≡ true → more ≡ [])
+    → still_prints (closed p) more ≡ still_prints p more
+unfolding still_prints printed made said
+closed_prints ended p more e h =
+    let k = and_right ended _ e in
+    let stands : p.over ≡ false = not-true p.over (and_left (not p.over) _ k) in
+    let none : eqb (length (words_of p.bytes)) 0 ≡ true = and_left (eqb (length (words_of p.bytes)) 0) _ (and_right (not p.over) _ k) in
+    rw (h (and_left ended _ e), append-nil, stands, append-nil p.bytes, none)
 
 pub advanced_prints : (ended : Bool) (p : Playing) (more : List ℕ) → (ended ≡ true → more ≡ []) → still_prints (advanced ended p) more ≡ still_prints p more
-unfolding advanced
-advanced_prints ended p more h = close_prints ended (play_to (2 + length p.bytes) ended p) more h ∙ play_prints (2 + length p.bytes) ended p more h
+advanced_prints ended p more h =
+    by_records (λ q. still_prints q more ≡ still_prints p more) ended (λ q e same. next_prints ended q more e h ∙ same)
+    (λ q e same. closed_prints ended q more e h ∙ same) p refl

@@ -1,3 +1,4 @@
+pub mod AtHand
 pub mod Ignoring
 pub mod Joining
 pub mod Ending

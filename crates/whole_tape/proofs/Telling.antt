@@ -23,6 +23,7 @@ use Rattle.study_text.specs.Text.{words_of}
 use Rattle.study_text.specs.declared.Place.{Place}
 use Rattle.play.specs.Play.{counts_after, place_after, ending_refusal}
 use Rattle.pieces.specs.Pieces.{Playing, next_record, ready, goes, play_to, ends, closed, close, advanced, playing, study_of, no_place}
+use Rattle.whole_tape.proofs.AtHand.{by_records}
 use Rattle.pieces.proofs.Sizes.{words_few}
 use Rattle.study_step.specs.Step.{told_of}
 use Rattle.whole_tape.specs.Study.{Made, unless_refused, made, made_of}
@@ -110,31 +111,21 @@ next_says ended p more e h =
 
 -- ---- what is at hand
 
-play_says : (n : ℕ) (ended : Bool) (p : Playing) (more : List ℕ) → (ended ≡ true → more ≡ []) → still_says (play_to n ended p) more ≡ still_says p more
-unfolding play_to
-play_says zero ended p more h = refl
-play_says (suc n) ended p more h = go (goes ended p.over (length (words_of p.bytes)) (length p.text)) refl (play_says n ended (next_record p) more h)
-  where
-    go : (b : Bool) → goes ended p.over (length (words_of p.bytes)) (length p.text) ≡ b → still_says (play_to n ended (next_record p)) more ≡ still_says (next_record p) more
-        → still_says (cond b (play_to n ended (next_record p)) p) more ≡ still_says p more
-    go true e i = i ∙ next_says ended p more e h
-    go false e i = refl
-
-close_says : (ended : Bool) (p : Playing) (more : List ℕ) → (ended ≡ true → more ≡ []) → still_says (close ended p) more ≡ still_says p more
-unfolding close still_says said made said_of
-close_says ended p more h = go (ends ended p.over (length (words_of p.bytes)) (length p.text)) refl
-  where
-    go : (b : Bool) → ends ended p.over (length (words_of p.bytes)) (length p.text) ≡ b → still_says (cond b (closed p) p) more ≡ still_says p more
-    go false e = refl
-    go true e =
-        let k = and_right ended _ e in
-        let stands : p.over ≡ false = not-true p.over (and_left (not p.over) _ k) in
-        let none : eqb (length (words_of p.bytes)) 0 ≡ true = and_left (eqb (length (words_of p.bytes)) 0) _ (and_right (not p.over) _ k) in
-        rw (h (and_left ended _ e), stands, append-nil p.bytes, none)
+closed_says : (ended : Bool) (p : Playing) (more : List ℕ)
+    → ends ended p.over (length (words_of p.bytes)) (length p.text) ≡ true
+    → (ended ≡ true → more ≡ [])
+    → still_says (closed p) more ≡ still_says p more
+unfolding still_says said made said_of
+closed_says ended p more e h =
+    let k = and_right ended _ e in
+    let stands : p.over ≡ false = not-true p.over (and_left (not p.over) _ k) in
+    let none : eqb (length (words_of p.bytes)) 0 ≡ true = and_left (eqb (length (words_of p.bytes)) 0) _ (and_right (not p.over) _ k) in
+    rw (h (and_left ended _ e), stands, append-nil p.bytes, none)
 
 pub advanced_says : (ended : Bool) (p : Playing) (more : List ℕ) → (ended ≡ true → more ≡ []) → still_says (advanced ended p) more ≡ still_says p more
-unfolding advanced
-advanced_says ended p more h = close_says ended (play_to (2 + length p.bytes) ended p) more h ∙ play_says (2 + length p.bytes) ended p more h
+advanced_says ended p more h =
+    by_records (λ q. still_says q more ≡ still_says p more) ended (λ q e same. next_says ended q more e h ∙ same)
+    (λ q e same. closed_says ended q more e h ∙ same) p refl
 
 -- ---- a study that goes on was not refused
 
@@ -149,26 +140,8 @@ next_quiet p o = go (record_of p.world (words_of p.bytes) p.log).answer o
     go (Ok a) e = refl
     go (Err r) e = yes e
 
-play_quiet : (n : ℕ) (ended : Bool) (p : Playing) → Quiet p → Quiet (play_to n ended p)
-unfolding play_to
-play_quiet zero ended p q = q
-play_quiet (suc n) ended p q = go (goes ended p.over (length (words_of p.bytes)) (length p.text)) (play_quiet n ended (next_record p) (next_quiet p))
-  where
-    go : (b : Bool) → Quiet (play_to n ended (next_record p)) → Quiet (cond b (play_to n ended (next_record p)) p)
-    go true i = i
-    go false i = q
-
-close_quiet : (ended : Bool) (p : Playing) → Quiet p → Quiet (close ended p)
-unfolding close
-close_quiet ended p q = go (ends ended p.over (length (words_of p.bytes)) (length p.text))
-  where
-    go : (b : Bool) → Quiet (cond b (closed p) p)
-    go true e = yes e
-    go false e = q e
-
 pub advanced_quiet : (ended : Bool) (p : Playing) → p.refusal ≡ None → Quiet (advanced ended p)
-unfolding advanced
-advanced_quiet ended p n = close_quiet ended (play_to (2 + length p.bytes) ended p) (play_quiet (2 + length p.bytes) ended p (λ o. n))
+advanced_quiet ended p n = by_records Quiet ended (λ q e quiet. next_quiet q) (λ q e quiet o. yes o) p (λ o. n)
 
 -- what is said now, and what the next round still says
 pub handed_on : (p : Playing) (more : List ℕ) → Quiet p
