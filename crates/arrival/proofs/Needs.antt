@@ -1,4 +1,4 @@
--- What the riders and the queue need, one at a time. Assumes nothing.
+-- What the riders and the queue need: the code's folds are the definition's rounds by number. Assumes nothing.
 use mathlib.Core.Path.{◌≡◌, refl, sym}
 use mathlib.Core.List.{List}
 use Prim.Native.Nat.{ℕ}

@@ -1,4 +1,5 @@
--- The records of a tape, one more. Assumes nothing.
+-- One more record of a tape: by the call's first condition it uses no more words than are left and the log keeps its
+-- length, and what the call gives is the definition's next. Assumes nothing.
 use Rattle.std.proofs.Common.{◌≡◌, ℕ, ◌+◌, ◌-◌, ◌≤◌, List, length, take, drop, refl, add-one, arith, length-drop, take_all}
 use Rattle.world.specs.World.{empty_world}
 use Rattle.world.specs.declared.World.{World}

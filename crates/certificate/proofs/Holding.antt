@@ -1,4 +1,5 @@
--- What a car and the joined log hold on the way, and that a run of the cars keeps it. Assumes nothing.
+-- What a car and the joined log hold on the way, and that a run of the cars keeps it, turn by turn: a car's own turn
+-- leaves it fit, and the words of another's say nothing of it. Assumes nothing.
 use mathlib.Core.Path.{◌≡◌, refl, ◌∙◌}
 use mathlib.Core.Bool.{Bool, false}
 use mathlib.Core.List.{List, ◌++◌, append-nil, append_assoc}

@@ -1,4 +1,5 @@
--- What holds with Manual mode, the third condition from it, and the joined log's length and kinds. Assumes nothing.
+-- What holds with Manual mode: each call keeps it, by induction. The third condition is that of a list without; the
+-- joined log's length is by its ticks, its kinds by car 16, which is never Manual. Assumes nothing.
 use mathlib.Core.Path.{◌≡◌, refl, ◌∙◌}
 use mathlib.Core.Logic.{◌⊎◌, inl, inr}
 use mathlib.Core.Bool.{Bool, true, false, ◌&&◌, ◌||◌, and-false}

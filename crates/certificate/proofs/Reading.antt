@@ -1,4 +1,5 @@
--- What the record call's first checks say: the record read from a head word, and the counters of a world that is not broken. Assumes nothing.
+-- What the record call's first checks say: the record read from a head word, and the counters of a world that is not
+-- broken. Assumes nothing.
 use mathlib.Core.Path.{◌≡◌, refl, sym, ◌∙◌}
 use mathlib.Core.Bool.{true, false, ◌&&◌, ◌||◌, and-true}
 use mathlib.Core.List.{List, [], ◌∷◌}

@@ -1,4 +1,5 @@
--- A record call keeps the totals, and what is held of each car that it does not put into Manual mode. Assumes nothing.
+-- A record call keeps the totals, and what is held of each car that it does not put into Manual mode: by its kind, a
+-- tick turn by turn, an order by its one car; no other changes a loaded car. Assumes nothing.
 use mathlib.Core.Path.{◌≡◌, refl, sym, ap, subst, ◌∙◌}
 use mathlib.Core.Bool.{Bool, true, false, not, ◌&&◌, cond}
 use mathlib.Core.List.{List, [], ◌++◌, append-nil}

@@ -1,4 +1,5 @@
--- A tick keeps what is held of a car, and does not move it where its door was not closed when it began. Assumes nothing.
+-- A tick keeps what is held of a car, and does not move it where its door was not closed when it began: by the moves,
+-- the doors, and the hall calls' words, which say nothing of a door. Assumes nothing.
 use mathlib.Core.Path.{◌≡◌, refl, ap, ◌∙◌}
 use mathlib.Core.Bool.{Bool, true, false}
 use mathlib.Core.List.{List, [], ◌∷◌, ◌++◌, append_assoc}

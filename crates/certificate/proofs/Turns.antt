@@ -1,4 +1,5 @@
--- A car's turn in either system keeps what the door parts need of the car, and its words say nothing of another. Assumes nothing.
+-- A car's turn in either system keeps what the door parts need of the car, and its words say nothing of another: by
+-- the cases of the turn and of the phase and door that go together. Assumes nothing.
 use mathlib.Core.Path.{◌≡◌, refl, sym, ap, ◌∙◌}
 use mathlib.Core.Bool.{Bool, true, false, ◌&&◌, beq}
 use mathlib.Core.List.{List, [], ◌∷◌, ◌++◌}

@@ -1,4 +1,5 @@
--- The clamp's answer lies its advance ahead: t, c and t + s are multiples of t's step, so where the sum goes past c the way back to t is exact. Assumes nothing.
+-- The clamp's answer lies its advance ahead: t, c and t + s are multiples of t's step, so where the sum goes past c
+-- the way back to t is exact. Assumes nothing.
 use mathlib.Core.Path.{◌≡◌, refl, sym, ap, subst, ◌∙◌}
 use mathlib.Core.Bool.{Bool, true, false, cond}
 use Prim.Native.Nat.{ℕ, ◌+◌, ◌-◌, ◌<◌, ◌≤◌, ◌^◌, ◌∣◌}

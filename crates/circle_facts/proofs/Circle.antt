@@ -1,4 +1,5 @@
--- The facts of specs/Facts.antt about positions and distances on circles: rounding keeps the order, so a remainder is at most the divisor in size. Assumes nothing.
+-- The facts of specs/Facts.antt about positions and distances on circles: rounding keeps the order, so a remainder is
+-- at most the divisor in size. Assumes nothing.
 use mathlib.Core.Logic.{◌⊎◌, inl, inr}
 use mathlib.Core.Path.{◌≡◌, refl, sym, ◌∙◌}
 use mathlib.Core.Bool.{Bool, true, false, not, ◌&&◌, ◌||◌, cond, beq}

@@ -1,4 +1,5 @@
--- An f64 at or above 0 is a whole number of grains of 2 ^ -1074. So sums, differences and comparisons of such floats are those of natural numbers, rounded. Assumes nothing.
+-- An f64 at or above 0 is a whole number of grains of 2 ^ -1074. So sums, differences and comparisons of such floats
+-- are those of natural numbers, rounded. Assumes nothing.
 use mathlib.Core.Path.{◌≡◌, refl, sym, ap, subst, ◌∙◌}
 use mathlib.Core.Bool.{Bool, true, false, not, ◌&&◌, ◌||◌, cond}
 use Prim.Native.Nat.{ℕ, zero, suc, ◌+◌, ◌-◌, ◌*◌, ◌/◌, ◌<◌, ◌≤◌, ◌^◌, ◌∣◌, zero-le}

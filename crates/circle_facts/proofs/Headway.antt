@@ -1,4 +1,5 @@
--- The fact of specs/Facts.antt about the headway clamp: its answer lies on the circle. Assumes nothing.
+-- The fact of specs/Facts.antt about the headway clamp: its answer lies on the circle, being wrapped; the sum that is
+-- wrapped is of two lengths from 0 to c, so it is finite where c + c is. Assumes nothing.
 use mathlib.Core.Logic.{inl, inr}
 use mathlib.Core.Path.{◌≡◌, refl, sym, ap, ◌∙◌}
 use mathlib.Core.Bool.{Bool, true, false, cond}

@@ -1,4 +1,5 @@
--- The shorter way round is at most half the circle: where the way forward is more than half, c minus it is exact. Assumes nothing.
+-- The shorter way round is at most half the circle: where the way forward is more than half, c minus it is exact.
+-- Assumes nothing.
 use mathlib.Core.Path.{◌≡◌, refl}
 use mathlib.Core.Bool.{Bool, true, false, not, ◌||◌, cond}
 use Prim.Native.Nat.{ℕ, suc, ◌+◌, ◌-◌, ◌≤◌}

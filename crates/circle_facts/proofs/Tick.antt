@@ -1,4 +1,5 @@
--- A tick on a circle ends on it: a landing short of its target is at most the way forward, so the sum that is wrapped is finite. Assumes nothing.
+-- A tick on a circle ends on it: a landing short of its target is at most the way forward, so the sum that is wrapped
+-- is finite. Assumes nothing.
 use mathlib.Core.Path.{◌≡◌, refl, sym, ◌∙◌}
 use mathlib.Core.Bool.{Bool, true, false, ◌&&◌, ◌||◌, cond}
 use Prim.Native.Nat.{ℕ, ◌+◌, ◌-◌, ◌<◌, ◌≤◌}

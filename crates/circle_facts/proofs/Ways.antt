@@ -1,4 +1,5 @@
--- The two ways between two positions: one is the difference of the wrapped positions, and the other is c minus it, each rounded. Assumes nothing.
+-- The two ways between two positions: one is the difference of the wrapped positions, and the other is c minus it,
+-- each rounded. Assumes nothing.
 use mathlib.Core.Logic.{◌⊎◌, inl, inr}
 use mathlib.Core.Path.{◌≡◌, refl, sym, ap, ◌∙◌}
 use mathlib.Core.Bool.{Bool, true, false, not, cond, or-true}

@@ -1,4 +1,5 @@
--- A wrapped position is wrapped already: where it was rounded it is an f64 in [0, c), which is its own remainder. Assumes nothing.
+-- A wrapped position is wrapped already: where it was rounded it is an f64 in [0, c), which is its own remainder.
+-- Assumes nothing.
 use mathlib.Core.Path.{◌≡◌, refl, sym}
 use mathlib.Core.Bool.{Bool, true, false}
 use Prim.Native.Nat.{◌*◌, ◌%◌}

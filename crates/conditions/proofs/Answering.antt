@@ -1,4 +1,5 @@
--- What every call gives: a refusal on its condition and on no other, and what a refusal and a tick leave as it was. Assumes nothing.
+-- What every call gives: a refusal on its condition and on no other, and what a refusal and a tick leave as it was.
+-- Each outcome is kept with the checks that led to it, in their order. Assumes nothing.
 use mathlib.Core.Path.{◌≡◌, refl, sym}
 use mathlib.Core.Logic.{◌⊎◌, inl, inr}
 use mathlib.Core.Bool.{Bool, true, false, true≢false, cond}

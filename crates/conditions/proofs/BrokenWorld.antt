@@ -1,4 +1,5 @@
--- Refusal 0: the page's conditions and the definition's test say the same of every world. Assumes nothing.
+-- Refusal 0: the page's conditions and the definition's test say the same of every world: part by part, the test
+-- decides the condition. Assumes nothing.
 use mathlib.Core.Path.{◌≡◌, refl, ap, ◌∙◌}
 use mathlib.Core.Logic.{◌⊎◌, inl, inr}
 use mathlib.Core.Bool.{true, false}

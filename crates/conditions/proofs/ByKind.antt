@@ -1,4 +1,5 @@
--- Each kind's checks are read by the page's places. Assumes nothing.
+-- Each kind's checks are read by the page's places: a check decides its place, and a place that the kind does not ask
+-- is silent. Assumes nothing.
 use mathlib.Core.Path.{◌≡◌, refl, ap, subst, subst⁻¹, ◌∙◌}
 use mathlib.Core.Logic.{◌⊎◌, inl, inr}
 use mathlib.Core.Bool.{Bool, true, false, not}

@@ -1,4 +1,5 @@
--- A refusal is given on its condition and on no other. Assumes nothing.
+-- A refusal is given on its condition and on no other: the answer is that of the first check that holds, and the
+-- checks are read by the page's places in its order. The report's likewise. Assumes nothing.
 use mathlib.Core.Path.{◌≡◌, refl, ap, subst⁻¹}
 use mathlib.Core.Logic.{◌⊎◌, inl, inr}
 use mathlib.Core.Bool.{true}

@@ -1,4 +1,5 @@
--- The phases of a door end when specs/Phases says. One law for the three phases. Assumes nothing.
+-- The phases of a door end when specs/Phases says: one law for the three phases, by induction on the ticks made, and
+-- the next begins where one ends. Assumes nothing.
 use mathlib.Core.Path.{◌≡◌, refl, ap}
 use mathlib.Core.Bool.{Bool, true, false, cond}
 use mathlib.Core.Logic.{⊎_elim}

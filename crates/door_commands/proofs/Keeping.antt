@@ -1,4 +1,5 @@
--- What a car's phase and door have, its queued commands keep. Assumes nothing.
+-- What a car's phase and door have, its queued commands keep: by induction on the queue, and the cases of each
+-- command. Assumes nothing.
 use mathlib.Core.Bool.{Bool}
 use Prim.Native.Nat.{ℕ, zero, suc, min}
 use Rattle.door.specs.Door.{request_open}

@@ -1,4 +1,5 @@
--- The door's tick of a car by its cases: the door waits, has opened, begins to close, or has closed, and the car stops or departs. Assumes nothing.
+-- The door's tick of a car by its cases: the door waits, has opened, begins to close, or has closed, and the car stops
+-- or departs. Assumes nothing.
 use mathlib.Core.Path.{◌≡◌, refl}
 use Prim.Native.Nat.{ℕ}
 use Rattle.door.specs.Door.{tick}

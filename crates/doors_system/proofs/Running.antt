@@ -1,4 +1,5 @@
--- The turns of the cars' doors: what a turn of the code is in the world so far. Assumes nothing.
+-- The turns of the cars' doors: a turn of the code is the definition's step in the world so far; where the code skips
+-- a car, the definition leaves it as it is. Assumes nothing.
 use mathlib.Core.Path.{◌≡◌, refl, sym, ap, ◌∙◌}
 use mathlib.Core.Bool.{Bool, true, false, not, ◌&&◌, ◌||◌, cond, true≢false}
 use mathlib.Core.Logic.{◌⊎◌, ⊎_elim}

@@ -1,4 +1,5 @@
--- An f64 with no sign as a whole number of units of 2 ^ -1074, which is 53 binary digits and zeros after them. Sums, differences and remainders are those of the numbers, rounded. Assumes nothing.
+-- An f64 with no sign as a whole number of units of 2 ^ -1074, which is 53 binary digits and zeros after them. Sums,
+-- differences and remainders are those of the numbers, rounded. Assumes nothing.
 use mathlib.Core.Path.{◌≡◌, refl, sym, ap, subst, ◌∙◌}
 use mathlib.Core.Bool.{Bool, true, false}
 use Prim.Native.Nat.{ℕ, zero, suc, ◌+◌, ◌-◌, ◌*◌, ◌/◌, ◌%◌, ◌<◌, ◌≤◌, ◌^◌}

@@ -1,4 +1,5 @@
--- The search of the leader: what it holds is the leader among the cars passed, and that one is the nearest. Assumes nothing.
+-- The search of the leader: what it holds is the leader among the cars passed, and that one is the nearest: a car more
+-- is no other of the line, or is nearer, or is not. Assumes nothing.
 use mathlib.Core.Path.{◌≡◌, refl, sym, subst, ap, ◌∙◌}
 use mathlib.Core.Bool.{Bool, true, false, not, cond}
 use mathlib.Core.List.{List}

@@ -1,4 +1,5 @@
--- Lists of lent calls are the certificate's lists of calls.
+-- Lists of lent calls are the certificate's lists of calls: by induction, as a lent call gives the definition's
+-- outcome, its answer, world and log.
 use mathlib.Core.Path.{◌≡◌, refl, sym, ap, subst, ◌∙◌}
 use mathlib.Core.List.{List, [], ◌∷◌}
 use Prim.Native.Nat.{ℕ}

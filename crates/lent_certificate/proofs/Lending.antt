@@ -1,4 +1,5 @@
--- The third condition of lent calls, from that of the calls that the definitions make. Assumes nothing.
+-- The third condition of lent calls, from that of the calls that the definitions make: what was given and gave says
+-- the same of both, call by call. Assumes nothing.
 use mathlib.Core.Path.{◌≡◌, refl}
 use mathlib.Core.List.{List, [], ◌∷◌}
 use Rattle.world.specs.declared.World.{World}

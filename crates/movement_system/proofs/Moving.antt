@@ -1,4 +1,5 @@
--- The cars' turns: what a turn of the code is in the world so far. Assumes nothing.
+-- The cars' turns: a turn of the code is the definition's step in the world so far, whether the car rests, goes on, or
+-- comes to its stop. Assumes nothing.
 use mathlib.Core.Path.{◌≡◌, refl, ap, ◌∙◌, sym}
 use mathlib.Core.Bool.{true, false, cond}
 use mathlib.Core.Logic.{◌⊎◌, ⊎_elim}

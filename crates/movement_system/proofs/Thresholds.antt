@@ -1,4 +1,5 @@
--- Stops in the order of the sort stay on their side of a threshold: where a later one is at most, or below it, so is an earlier one. Assumes nothing.
+-- Stops in the order of the sort stay on their side of a threshold: where a later one is at most, or below it, so is
+-- an earlier one. Assumes nothing.
 use mathlib.Core.Path.{◌≡◌, refl, sym, ◌∙◌}
 use mathlib.Core.Bool.{Bool, true, false, not, ◌&&◌, ◌||◌, or-false}
 use mathlib.Core.List.{List}

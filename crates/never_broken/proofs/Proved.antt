@@ -1,4 +1,5 @@
--- No list of calls from the empty world leaves a broken one. Assumes nothing.
+-- No list of calls from the empty world leaves a broken one: that world is sound, each record keeps it so, and a sound
+-- world is not broken. Assumes nothing.
 use mathlib.Core.List.{List, [], ◌∷◌}
 use native.Mathlib.Omega.{arith}
 use Rattle.world.specs.declared.World.{World}

@@ -1,4 +1,4 @@
--- Every record keeps what refusal 0 asks of a world. Assumes nothing.
+-- Every record keeps what refusal 0 asks of a world: by its kind, from what its checks let through. Assumes nothing.
 use mathlib.Core.Path.{◌≡◌, refl, sym, ◌∙◌}
 use mathlib.Core.Bool.{Bool, true, false, not, cond, true≢false}
 use mathlib.Core.List.{List}

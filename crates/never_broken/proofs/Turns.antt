@@ -1,4 +1,5 @@
--- A car's turn in either system keeps its queues short and names what is loaded. Assumes nothing.
+-- A car's turn in either system keeps its queues short and names what is loaded: by the cases of the turn; a loop's
+-- next stop is one of its line's. Assumes nothing.
 use mathlib.Core.Path.{◌≡◌, refl}
 use mathlib.Core.Bool.{Bool, false, ◌&&◌}
 use mathlib.Core.List.{List}

@@ -1,4 +1,5 @@
--- A sound world is not broken. Assumes nothing.
+-- A sound world is not broken: each test of refusal 0 fails by its part of soundness; 2 ^ 28 ticks of 1,024 moves are
+-- not past the limit. Assumes nothing.
 use mathlib.Core.Path.{◌≡◌}
 use mathlib.Core.Bool.{false}
 use Prim.Native.Nat.{ℕ, ◌^◌, ◌<◌}

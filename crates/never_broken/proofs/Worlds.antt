@@ -1,4 +1,5 @@
--- A tick keeps what refusal 0 asks of a world. Assumes nothing.
+-- A tick keeps what refusal 0 asks of a world: the tables turn by turn, the counters since a tick has at most 64 moves
+-- a car. Assumes nothing.
 use mathlib.Core.Path.{◌≡◌, refl}
 use mathlib.Core.Bool.{Bool, false}
 use mathlib.Core.List.{List}

@@ -1,4 +1,4 @@
--- A stop that a look-up gives is one of those it looked at. Assumes nothing.
+-- A stop that a look-up gives is one of those it looked at: the nearer of two is one of the two. Assumes nothing.
 use mathlib.Core.Path.{◌≡◌}
 use mathlib.Core.Bool.{Bool, true, false, not, ◌||◌, cond}
 use mathlib.Core.List.{List}

@@ -1,4 +1,4 @@
--- What answers say. Assumes nothing.
+-- What answers say: the call computes, where it is known whether the world is broken and has started. Assumes nothing.
 use mathlib.Core.Path.{refl}
 use Rattle.layout.specs.Layout.{kind_of, n_of, s_of, v_of}
 use Rattle.changes.specs.Changes.{start}

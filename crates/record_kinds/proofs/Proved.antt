@@ -1,4 +1,5 @@
--- The room that a tick asks for, in a world that is not broken. Assumes nothing.
+-- The room that a tick asks for, in a world that is not broken: its counts fit their tables, so none is cut. Assumes
+-- nothing.
 use mathlib.Core.Path.{◌≡◌, refl, sym, ◌∙◌}
 use mathlib.Core.Bool.{Bool, true, false}
 use Prim.Native.Nat.{ℕ, ◌+◌, ◌*◌, ◌≤◌, min}

@@ -1,4 +1,5 @@
--- Insertion from the back, as the code goes, is insertion from the front into a sorted list; and the sort is sorted and has each number once. Assumes nothing.
+-- Insertion from the back, as the code goes, is insertion from the front into a sorted list; and the sort is sorted
+-- and has each number once. Assumes nothing.
 use mathlib.Core.Path.{◌≡◌, refl, sym, ap, ◌∙◌}
 use mathlib.Core.Bool.{Bool, true, false, cond}
 use mathlib.Core.List.{List, [], ◌∷◌, ◌++◌}

@@ -1,4 +1,4 @@
--- What a world that is not broken holds. Assumes nothing.
+-- What a world that is not broken holds: each test of its counts has failed. Assumes nothing.
 use mathlib.Core.Path.{◌≡◌}
 use mathlib.Core.Bool.{false, ◌||◌}
 use Prim.Native.Nat.{◌≤◌, ◌<◌, ◌^◌}

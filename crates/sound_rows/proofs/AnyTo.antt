@@ -1,4 +1,5 @@
--- Whether one of a table's items passes a test, by their numbers. Assumes nothing.
+-- Whether one of a table's items passes a test: a look through its slice is the definition's by number. Assumes
+-- nothing.
 use Rattle.std.proofs.Common.{◌≡◌, ◌≤◌, ◌<◌, ℕ, zero, suc, Bool, List, length, get_or, take, min, refl, arith, length-take}
 use mathlib.Core.Bool.{false, ◌||◌}
 use mathlib.Core.Logic.{⊎_elim}

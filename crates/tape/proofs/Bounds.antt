@@ -1,4 +1,5 @@
--- A refusal is 1 to 4; a record takes no more words than there are, and its kind is its head's. Assumes nothing.
+-- A refusal is 1 to 4; a record takes no more words than there are, and its kind is its head's: kind by kind, from its
+-- checks. Assumes nothing.
 use mathlib.Core.Path.{◌≡◌, refl}
 use mathlib.Core.Bool.{Bool, true, false, ◌&&◌}
 use mathlib.Core.List.{List, [], ◌∷◌}

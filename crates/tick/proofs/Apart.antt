@@ -1,4 +1,5 @@
--- fl(x - y) ≤ fl(z + y) where x < z and y has no sign, for every value of the logic: rounding keeps the order. Assumes nothing.
+-- fl(x - y) ≤ fl(z + y) where x < z and y has no sign, for every value of the logic: rounding keeps the order. Assumes
+-- nothing.
 use mathlib.Core.Path.{◌≡◌, refl}
 use mathlib.Core.Bool.{Bool, true, false, cond}
 use Prim.Native.Nat.{ℕ, ◌+◌, ◌-◌, ◌*◌, ◌<◌, ◌≤◌}

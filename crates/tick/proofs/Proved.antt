@@ -1,4 +1,5 @@
--- The claims about a tick. Assumes nothing.
+-- The claims about a tick, from its turns: their words, with those of the calls that they may clear, fit into the
+-- room; the counters grow by the moves, and no sum reaches 2 ^ 64. Assumes nothing.
 use mathlib.Core.Path.{◌≡◌, refl, sym, ap, ◌∙◌}
 use mathlib.Core.Bool.{true, false}
 use mathlib.Core.List.{List, ◌++◌}

@@ -1,4 +1,5 @@
--- The cars in ascending number, whatever their turn is: their words and counters are those of the turns. Assumes nothing.
+-- The cars in ascending number, whatever their turn is: by induction their words and counters are those of the turns.
+-- Assumes nothing.
 use mathlib.Core.Path.{◌≡◌, refl, ◌∙◌}
 use mathlib.Core.Bool.{false}
 use mathlib.Core.List.{List, [], ◌∷◌}

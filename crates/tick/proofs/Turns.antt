@@ -1,4 +1,4 @@
--- A car's turn in either system: how many words it tells, and how its counters grow. Assumes nothing.
+-- A car's turn in either system, by its cases: how many words it tells, and how its counters grow. Assumes nothing.
 use mathlib.Core.Path.{◌≡◌, refl, ap, ◌∙◌}
 use mathlib.Core.Bool.{Bool, true, false, ◌&&◌, cond, beq}
 use mathlib.Core.List.{List, [], ◌∷◌, ◌++◌}

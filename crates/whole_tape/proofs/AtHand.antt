@@ -1,4 +1,5 @@
--- What is done with the bytes at hand, one record after the other and then the tape's end: what each of these keeps, it keeps. Assumes nothing.
+-- What is done with the bytes at hand, one record after the other and then the tape's end: what each of these keeps,
+-- it keeps. Assumes nothing.
 use Rattle.std.proofs.Common.{◌≡◌, Bool, true, false, cond, ℕ, zero, suc, ◌+◌, length, refl}
 use Rattle.study_text.specs.Text.{words_of}
 use Rattle.pieces.specs.Pieces.{Playing, goes, next_record, play_to, ends, closed, close, advanced}

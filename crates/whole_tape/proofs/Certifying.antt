@@ -1,4 +1,5 @@
--- What the study prints is of record calls as the certificate has them. Assumes nothing.
+-- What the study prints is of record calls as the certificate has them: call by call, what an accepted one tells is
+-- its part of the joined log, and it is counted as that log is. Assumes nothing.
 use mathlib.Core.Path.{◌≡◌, refl, sym, ap, ◌∙◌}
 use mathlib.Core.Bool.{Bool, true, false, cond}
 use mathlib.Core.List.{List, [], ◌∷◌, ◌++◌, append-nil, append_assoc}

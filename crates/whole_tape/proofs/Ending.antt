@@ -1,4 +1,5 @@
--- A study at its input's end ends. Assumes nothing.
+-- A study at its input's end ends: where no more input is wanted a record uses bytes or is refused, or no word is left
+-- and the tape is closed. Assumes nothing.
 use mathlib.Core.Path.{◌≡◌, refl}
 use mathlib.Core.Logic.{◌⊎◌, inl, inr, ⊎_elim}
 use mathlib.Core.Bool.{Bool, true, false, not, cond, or-true}

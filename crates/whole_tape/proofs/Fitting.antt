@@ -1,4 +1,5 @@
--- The study never meets refusal 12. Assumes nothing.
+-- The study never meets refusal 12: it is the page's last, so the world is not broken, and its log of 2,048 words has
+-- room for 16 cars and 64 stops. Assumes nothing.
 use mathlib.Core.Path.{◌≡◌, refl, ap}
 use mathlib.Core.Logic.{inl, inr}
 use mathlib.Core.Bool.{Bool, true, not, ◌&&◌}

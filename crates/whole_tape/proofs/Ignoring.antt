@@ -1,4 +1,5 @@
--- What a record is read as depends on its own words alone. Assumes nothing.
+-- What a record is read as depends on its own words alone: kind by kind, none reads past the words that it asks for,
+-- and 69 are enough for all. Assumes nothing.
 use mathlib.Core.Path.{◌≡◌, refl}
 use mathlib.Core.Bool.{Bool, true, false, not, ◌&&◌, cond}
 use mathlib.Core.List.{List, [], ◌∷◌, ◌++◌}

@@ -1,4 +1,5 @@
--- What a study still prints is the same before and after what is done with the bytes at hand. Assumes nothing.
+-- What a study still prints is the same before and after what is done with the bytes at hand: a record reads no
+-- further than itself, whatever follows, and leaves fewer words. Assumes nothing.
 use mathlib.Core.Path.{◌≡◌, refl, ap, ◌∙◌}
 use mathlib.Core.Bool.{Bool, true, false, not, cond}
 use mathlib.Core.List.{List, [], ◌∷◌, ◌++◌, append-nil, append_assoc}

@@ -1,4 +1,5 @@
--- Which call is refused, and at which word. Assumes nothing.
+-- Which call is refused, and at which word, by induction on the calls: an accepted one counts itself and the words it
+-- used; a tape accepted whole has none. Assumes nothing.
 use mathlib.Core.Path.{◌≡◌, refl, sym, ap, ◌∙◌}
 use mathlib.Core.Bool.{true}
 use mathlib.Core.List.{List, [], ◌∷◌, ◌++◌, append-nil, append_assoc}

@@ -1,4 +1,5 @@
--- The last line that is printed counts the lines above it. Assumes nothing.
+-- The last line that is printed counts the lines above it: they are the joined log's words, each with its kind first,
+-- and the report's totals hold of that log. Assumes nothing.
 use mathlib.Core.Path.{◌≡◌, refl, sym, ap, ◌∙◌}
 use mathlib.Core.Bool.{false}
 use mathlib.Core.List.{List, [], ◌∷◌, ◌++◌, map}

@@ -1,4 +1,5 @@
--- The program's rounds come to the whole tape. Assumes nothing.
+-- The program's rounds come to the whole tape: what is written and what is still to be printed are together the same
+-- after each, and each leaves less to do, or is the last. Assumes nothing.
 use mathlib.Core.Path.{◌≡◌, refl, sym, ap, ◌∙◌}
 use mathlib.Core.Logic.{◌⊎◌, inl, inr, ⊎_elim}
 use mathlib.Core.Bool.{Bool, true, false, not, ◌||◌}

@@ -1,4 +1,5 @@
--- What a list of checks comes to, and what is known of the checks where it is known what they came to. Assumes nothing.
+-- What a list of checks comes to, and what is known of the checks where it is known what they came to. Assumes
+-- nothing.
 use mathlib.Core.Path.{◌≡◌, refl, subst}
 use mathlib.Core.Logic.{◌⊎◌, inl, inr}
 use mathlib.Core.Bool.{Bool, true, false, ◌&&◌}

@@ -1,4 +1,5 @@
--- `beside_ticks::by_value` meets its contract. Assumes nothing.
+-- `beside_ticks::by_value` meets its contract: a turn is the definition's next record, by what the call gives; it uses
+-- no more words than are left, so the place stays within the tape. Assumes nothing.
 use Rattle.std.proofs.Common.{◌∙◌, arith, rules}
 use Rattle.laws.specs.Numbers.{plus}
 use Rattle.beside_ticks.proofs.Playing.{within, stays, again}

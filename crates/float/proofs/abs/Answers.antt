@@ -1,4 +1,5 @@
--- `float::abs` meets its contract. Assumes nothing.
+-- `float::abs` meets its contract: 0 - x is x with its sign turned (+0 of a zero), and the test takes of the two the
+-- one without a sign, at each case of x. Assumes nothing.
 use Rattle.float.proofs.Rounding.{abs_taken, abs_left}
 use Rattle.float.proofs.abs.Goals as goal
 

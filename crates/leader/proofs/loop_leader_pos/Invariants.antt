@@ -1,4 +1,4 @@
--- What the loops keep.
+-- The loop keeps: the best so far is the leader of the first i cars, by its distance and position, or none.
 use mathlib.Core.Path.{◌≡◌}
 use Rattle.leader.specs.Leader.{leader_to}
 use Rattle.leader.proofs.Lead.{held}

@@ -1,4 +1,4 @@
--- What the loops keep.
+-- The loop keeps: the best so far is the nearest of the stops passed, with its distance; none before the first.
 use mathlib.Core.Path.{◌≡◌}
 use Rattle.next_stop.specs.NextStop.{nearest_to}
 use Rattle.next_stop.proofs.loop_next_stop_forward.Given as goal

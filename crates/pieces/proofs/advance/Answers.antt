@@ -1,4 +1,5 @@
--- `pieces::advance` meets its contract. Assumes nothing.
+-- `pieces::advance` meets its contract: the records, the tape's end and the bytes kept are the definition's, each by
+-- its function's contract; the tape's end by the same test, and its line has room. Assumes nothing.
 use Rattle.std.proofs.Common.{rules, ℕ, min, ap, sym, ◌∙◌}
 use Rattle.pieces.proofs.Going.{advances}
 use Rattle.pieces.proofs.advance.Goals as goal

@@ -1,4 +1,5 @@
--- `pieces::play_words` meets its contract. Assumes nothing.
+-- `pieces::play_words` meets its contract: a turn is the definition's next record, by what the two calls give, and it
+-- leaves fewer words or is the last; where the test fails the definition stops too. Assumes nothing.
 use Rattle.std.proofs.Common.{◌+◌, ◌≤◌, [], length, None, arith}
 use Rattle.pieces.proofs.Going.{here, Going, going, stepped, fewer, turn, reached, rest_of}
 use Rattle.pieces.specs.declared.Study.{Study}

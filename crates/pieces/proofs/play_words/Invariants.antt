@@ -1,4 +1,5 @@
--- What the loop keeps.
+-- The loop keeps: from here the definition comes to what it comes to from the piece's start; the words used are there
+-- and the text has room. It ends: each turn leaves fewer words, or is the last.
 use Rattle.std.proofs.Common.{◌≡◌, ◌≤◌, [], length, None}
 use Rattle.study_text.specs.Text.{words_of}
 use Rattle.pieces.proofs.Going.{here, left, Going}

@@ -1,4 +1,5 @@
--- What the loops keep.
+-- The loops keep: the world and the log are as the definition's first i turns leave them, one loop of the moves, the
+-- other of the doors, with what has opened. The cars are at most 16.
 use Rattle.std.proofs.Common.{◌≤◌}
 use Rattle.doors_system.specs.Doors.{door_of}
 use Rattle.doors_system.proofs.Running.{Runs}

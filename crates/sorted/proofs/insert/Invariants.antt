@@ -1,4 +1,4 @@
--- What the loops keep.
+-- The loop keeps: going on from place k, which is free, gives the sort of the first i + 1. It ends as k falls.
 use mathlib.Core.Path.{◌≡◌}
 use Prim.Native.Nat.{◌+◌, ◌≤◌}
 use Rattle.sorted.specs.Sorted.{sorted_table}

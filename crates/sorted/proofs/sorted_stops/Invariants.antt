@@ -1,4 +1,4 @@
--- What the loops keep.
+-- The loop keeps: the table begins with the first i numbers in the order of their stops, and has zeros behind them.
 use mathlib.Core.Path.{◌≡◌}
 use Rattle.sorted.specs.Sorted.{sorted_table}
 use Rattle.sorted.proofs.sorted_stops.Given as goal

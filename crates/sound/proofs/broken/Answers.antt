@@ -1,4 +1,5 @@
--- `sound::broken` meets its contract. Assumes nothing.
+-- `sound::broken` meets its contract: past the test of the counts each table's slice has all its rows, so `any` over
+-- it is the definition's search of the rows by number. Assumes nothing.
 use Rattle.std.proofs.Common.{◌∙◌, sym, rules}
 use borrow.Author.Tests.{tests}
 use Rattle.std.proofs.lemmas.Iterator.{YieldsList-from_slice}

@@ -1,4 +1,5 @@
--- `sound::calls_unloaded` meets its contract. Assumes nothing.
+-- `sound::calls_unloaded` meets its contract: below 64 stops the shift is 2 ^ stops; from 64 on no calls, which are
+-- below 2 ^ 64, reach that. Assumes nothing.
 use mathlib.Core.Path.{sym, ◌∙◌}
 use Prim.Native.Nat.{◌^◌}
 use native.Mathlib.Omega.{arith}

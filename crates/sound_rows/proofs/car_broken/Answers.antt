@@ -1,4 +1,5 @@
--- `sound_rows::car_broken` meets its contract. Assumes nothing.
+-- `sound_rows::car_broken` meets its contract: past the test of its length the queue's slice has all its stops, so the
+-- fold over it is the definition's search by number. Assumes nothing.
 use Rattle.std.proofs.Common.{◌∙◌}
 use borrow.Author.Tests.{le-ltb}
 use Rattle.sound_rows.specs.Rows.{car_broken, unloaded}

@@ -1,4 +1,5 @@
--- `sound_rows::line_broken` meets its contract. Assumes nothing.
+-- `sound_rows::line_broken` meets its contract: past the test of its length the list's slice has all its stops, so the
+-- fold over it is the definition's search by number. Assumes nothing.
 use Rattle.std.proofs.Common.{◌∙◌}
 use borrow.Author.Tests.{le-ltb}
 use Rattle.sound_rows.specs.Rows.{line_broken, unloaded}

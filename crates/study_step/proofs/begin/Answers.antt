@@ -1,4 +1,5 @@
--- `study_step::begin` meets its contract. Assumes nothing.
+-- `study_step::begin` meets its contract: its study is the one that the call gives, and the rest is as written.
+-- Assumes nothing.
 use Rattle.std.proofs.Common.{ap, false}
 use Rattle.pieces.specs.declared.Study.{Study}
 use Rattle.study_step.specs.declared.Run.{Run}

@@ -1,4 +1,5 @@
--- `study_step::play` meets its contract. Assumes nothing.
+-- `study_step::play` meets its contract: a sum of bytes cut at the largest number still reaches past the piece, so the
+-- bytes at hand are the same; a refusal's line stands behind the text and has room. Assumes nothing.
 use Rattle.std.proofs.Common.{◌≡◌, ℕ, List, ◌+◌, min, length, length-append, take, sym, ap, ◌∙◌, arith}
 use Rattle.log_writes.proofs.Writing.{also, wrote_count, wrote_taken}
 use Rattle.study_text.proofs.Keeping.{take_min}

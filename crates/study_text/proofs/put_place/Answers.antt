@@ -1,4 +1,5 @@
--- `study_text::put_place` meets its contract. Assumes nothing.
+-- `study_text::put_place` meets its contract: the line's six parts, told one after the other, are one text.
+-- Assumes nothing.
 use Rattle.log_writes.proofs.Telling.{told_also}
 use Rattle.laws.specs.Numbers.{plus}
 use Rattle.study_text.specs.Text.{place_line}

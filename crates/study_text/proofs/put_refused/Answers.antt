@@ -1,4 +1,5 @@
--- `study_text::put_refused` meets its contract. Assumes nothing.
+-- `study_text::put_refused` meets its contract: the refusal's number and the newline, told one after the other, are
+-- one text. Assumes nothing.
 use Rattle.log_writes.proofs.Telling.{told_also}
 use Rattle.study_text.specs.Text.{refused_line}
 use Rattle.study_text.proofs.put_refused.Goals as goal

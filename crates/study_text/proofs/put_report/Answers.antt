@@ -1,4 +1,5 @@
--- `study_text::put_report` meets its contract. Assumes nothing.
+-- `study_text::put_report` meets its contract: the eight numbers and the newline, told one after the other, are one
+-- text. Assumes nothing.
 use Rattle.log_writes.proofs.Telling.{told_also}
 use Rattle.study_text.specs.Text.{report_line}
 use Rattle.study_text.proofs.put_report.Goals as goal

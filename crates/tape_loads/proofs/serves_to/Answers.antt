@@ -1,4 +1,5 @@
--- `tape_loads::serves_to` meets its contract. Assumes nothing.
+-- `tape_loads::serves_to` meets its contract: the word at which the loop is left is one of the served and no stop's
+-- number, so the definition has the list outside too. Assumes nothing.
 use Rattle.std.proofs.Common.{rules}
 use Rattle.tape_loads.proofs.Serves.{served_outside}
 use Rattle.tape_loads.proofs.serves_to.Goals as goal

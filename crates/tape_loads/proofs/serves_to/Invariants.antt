@@ -1,4 +1,4 @@
--- What the loop keeps.
+-- The loop keeps: the first i served words are stops' numbers, and the array holds them, zeros behind.
 use Rattle.std.proofs.Common.{◌≡◌, false}
 use Rattle.tape_loads.specs.LoadRecords.{serves_outside, serves_to}
 use Rattle.tape_loads.proofs.serves_to.Given as goal

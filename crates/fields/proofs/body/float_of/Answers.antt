@@ -1,4 +1,5 @@
--- `fields::body::float_of` meets its contract. Assumes nothing.
+-- `fields::body::float_of` meets its contract: a pattern above the infinity's, its sign off, reads as NaN, and the
+-- logic has one NaN; any other pattern is no NaN's, as `from_bits` asks. Assumes nothing.
 use mathlib.Core.Path.{refl}
 use Prim.Native.Nat.{◌+◌, ◌*◌, ◌^◌}
 use Rattle.fields.proofs.Floats.{nan_above, number_below}

@@ -1,4 +1,5 @@
--- `remainder::reduced` meets its contract. Assumes nothing.
+-- `float::remainder::reduced` meets its contract: a below b is its own remainder; else it is that by b + b, or that
+-- less b where b still fits. The measure falls: b + b is more units than b, or infinite. Assumes nothing.
 use mathlib.Core.Path.{subst, ◌∙◌}
 use Prim.Native.Nat.{ℕ, ◌<◌}
 use lib.Ieee.{binary64, add}

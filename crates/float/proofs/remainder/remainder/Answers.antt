@@ -1,4 +1,5 @@
--- `remainder::remainder` meets its contract. Assumes nothing.
+-- `float::remainder::remainder` meets its contract: it is that of the sizes, with x's sign; x itself where its size is
+-- the lesser; and NaN where y is 0, x infinite, or one a NaN. Assumes nothing.
 use mathlib.Core.Path.{◌≡◌}
 use mathlib.Core.Bool.{true}
 use lib.Ieee.{lt, of_bits, div}

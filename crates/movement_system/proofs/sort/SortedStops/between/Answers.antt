@@ -1,4 +1,5 @@
--- `movement_system::sort::SortedStops::between` meets its contract. Assumes nothing.
+-- `movement_system::sort::SortedStops::between` meets its contract: those below a threshold stand first in the sort,
+-- so from the start on the run of them is as long as the end's count less the start's. Assumes nothing.
 use Rattle.std.proofs.Common.{arith, rules, ◌≡◌, ◌-◌, ℕ, min, take, drop, length, ◌∙◌}
 use Rattle.std.proofs.lemmas.List.{take_all, length-drop}
 use borrow.Author.Tests.{tests}

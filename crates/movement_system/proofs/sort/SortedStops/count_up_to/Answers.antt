@@ -1,4 +1,5 @@
--- `movement_system::sort::SortedStops::count_up_to` meets its contract. Assumes nothing.
+-- `movement_system::sort::SortedStops::count_up_to` meets its contract: those at most the threshold stand first in the
+-- sort, so the partition point is how many they are. Assumes nothing.
 use Rattle.std.proofs.Common.{rules, ℕ, min}
 use lib.Ieee.{le}
 use Rattle.std.proofs.lemmas.List.Sorted.{IsPartitionPoint-from_clause}
