@@ -20,7 +20,8 @@ fn with_next<T: Copy, const N: usize>(
     number: u8,
     item: T,
 ) -> Result<Table<T, N>, Refusal>
-    ensures { result ≡ unless (check NotNext (not_next N table.count number) ∷ []) Err (Ok (with_item table number item (number + 1))) }
+    ensures { result ≡ unless (check NotNext (not_next N table.count number) ∷ [])
+        Err (Ok (with_item table number item (number + 1))) }
 {
     refuse_if(number as usize != table.count, Refusal::NotNext)?;
     table.pushed(item).ok_or(Refusal::NotNext)
