@@ -62,7 +62,8 @@ pub fn tick_movement(
     deceleration: f64,
     dt: f64,
 ) -> MovementResult
-    ensures { result ≡ Movement.tick_movement position velocity target_position max_speed acceleration deceleration dt }
+    ensures { result ≡ Movement.tick_movement
+        position velocity target_position max_speed acceleration deceleration dt }
 {
     let displacement = target_position - position;
     if (abs(displacement) < EPSILON) & (abs(velocity) < EPSILON) {
@@ -98,7 +99,8 @@ pub fn tick_movement_cyclic(
     dt: f64,
     circumference: f64,
 ) -> MovementResult
-    ensures { result ≡ Movement.tick_movement_cyclic position velocity target_position max_speed acceleration deceleration dt circumference }
+    ensures { result ≡ Movement.tick_movement_cyclic
+        position velocity target_position max_speed acceleration deceleration dt circumference }
 {
     if degenerate(circumference) {
         return moved_to(position, 0.0);
@@ -131,7 +133,8 @@ pub fn headway_clamp_target(
     min_headway: f64,
     circumference: f64,
 ) -> f64
-    ensures { result ≡ Movement.headway_clamp_target trailer_position leader_position intended_target min_headway circumference }
+    ensures { result ≡ Movement.headway_clamp_target
+        trailer_position leader_position intended_target min_headway circumference }
 {
     if degenerate(circumference) | !is_finite(min_headway) {
         return intended_target;
