@@ -53,7 +53,8 @@ pub extern "C" fn tick_movement(
     deceleration: f64,
     dt: f64,
 ) -> MovementResult
-    ensures { result ≡ Movement.tick_movement position velocity target_position max_speed acceleration deceleration dt }
+    ensures { result ≡ Movement.tick_movement
+        position velocity target_position max_speed acceleration deceleration dt }
 {
     movement::tick_movement(
         position,
@@ -78,7 +79,8 @@ pub extern "C" fn tick_movement_cyclic(
     dt: f64,
     circumference: f64,
 ) -> MovementResult
-    ensures { result ≡ Movement.tick_movement_cyclic position velocity target_position max_speed acceleration deceleration dt circumference }
+    ensures { result ≡ Movement.tick_movement_cyclic
+        position velocity target_position max_speed acceleration deceleration dt circumference }
 {
     movement::tick_movement_cyclic(
         position,
@@ -101,7 +103,8 @@ pub extern "C" fn headway_clamp_target(
     min_headway: f64,
     circumference: f64,
 ) -> f64
-    ensures { result ≡ Movement.headway_clamp_target trailer_position leader_position intended_target min_headway circumference }
+    ensures { result ≡ Movement.headway_clamp_target
+        trailer_position leader_position intended_target min_headway circumference }
 {
     movement::headway_clamp_target(
         trailer_position,
