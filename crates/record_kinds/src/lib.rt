@@ -2,7 +2,7 @@
 #![tactic(auto)]
 
 ghost use Rattle.std.specs.Prelude.{◌≡◌, true};
-ghost use Rattle.record_kinds.specs.Kinds as Kinds;
+ghost use Rattle.record_kinds.specs.Kinds.{change_by, tick_taken};
 ghost use Rattle.record_kinds.specs.PaperRoom.{PaperRoom};
 
 use changes::Changed;
@@ -12,7 +12,7 @@ use world::refusal::{Refusal, refuse_if};
 
 // Kinds 1 to B and D: what the state refuses, or the world after the record.
 pub fn change(world: World, read: Record) -> Changed
-    ensures { result ≡ Kinds.change_by world read }
+    ensures { result ≡ change_by world read }
 {
     match read {
         Record::Line { number, line } => loads::load_line(world, number, line),
@@ -37,7 +37,7 @@ pub fn change(world: World, read: Record) -> Changed
 // Kind C, with a log of `room` words: 6, 11 and 12, or the tick is taken.
 #[tactic(auto, using(crate::proofs::Proved::small), unfolding(crate::specs::Kinds::tick_taken))]
 pub fn take_tick(world: &World, room: usize) -> Result<(), Refusal>
-    ensures { result ≡ Kinds.tick_taken world.now.started world.now.ticks world.now.cars.count world.now.stops.count room }
+    ensures { result ≡ tick_taken world.now.started world.now.ticks world.now.cars.count world.now.stops.count room }
 {
     refuse_if(!world.started, Refusal::NotNow)?;
     refuse_if(0x1000_0000 <= world.ticks, Refusal::LastTick)?;
