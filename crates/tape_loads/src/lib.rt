@@ -4,7 +4,11 @@
 ghost use Rattle.std.specs.Prelude.{IfOk, ◌≡◌, ◌≤◌, ◌+◌, ◌&&◌, ◌||◌, not, cond, ltb, eqb, length, Ok, Err};
 ghost use Rattle.world.specs.declared.refusal.Refusal.TheVariants.{FieldOutside};
 ghost use Rattle.tape_records.specs.Answers.{answer, not_stop, not_car};
-ghost use Rattle.tape_loads.specs.LoadRecords.{serves_count, serves_outside, serves_to, line_fields_outside, line_kind_of, line_record, stop_record, motion_at, motion_outside, car_record, rider_body, phase_car_outside, rider_phase, car_option, stop_option, rider_record};
+ghost use Rattle.tape_loads.specs.LoadRecords.{serves_count, serves_outside, serves_to};
+ghost use Rattle.tape_loads.specs.LoadRecords.{line_fields_outside, line_kind_of, line_record};
+ghost use Rattle.tape_loads.specs.LoadRecords.{stop_record, motion_at, motion_outside, car_record};
+ghost use Rattle.tape_loads.specs.LoadRecords.{rider_body, phase_car_outside, rider_phase, rider_record};
+ghost use Rattle.tape_loads.specs.LoadRecords.{car_option, stop_option};
 
 use fields::body::{
     float_at, outside_above_zero, outside_from_zero, outside_size, raw_zero_at, word_at,
@@ -46,7 +50,8 @@ fn serves_to(words: &[u32], count: usize) -> Result<[u8; 64], Refusal>
 // The kind of a line: linear, with raw zero words, or a loop of the two floats.
 #[tactic(auto, unfolding(crate::specs::LoadRecords::line_fields_outside, crate::specs::LoadRecords::line_kind_of))]
 fn line_kind(head: Fields, words: &[u32]) -> Result<LineKind, Refusal>
-    ensures { result ≡ cond (line_fields_outside head words.now) (Err FieldOutside) (Ok (line_kind_of head words.now)) }
+    ensures { result ≡
+        cond (line_fields_outside head words.now) (Err FieldOutside) (Ok (line_kind_of head words.now)) }
 {
     refuse_if(head.n > 7, Refusal::FieldOutside)?;
     match head.s {
@@ -171,7 +176,8 @@ fn rider_body(word: u32) -> RiderBody
 
 // The phase of a rider by its number; phases 1 to 3 have a car, the others 255.
 fn rider_phase(phase: u8, car: u8) -> Result<RiderPhase, Refusal>
-    ensures { result ≡ cond (ltb 7 phase || phase_car_outside phase car) (Err FieldOutside) (Ok (rider_phase phase car)) }
+    ensures { result ≡
+        cond (ltb 7 phase || phase_car_outside phase car) (Err FieldOutside) (Ok (rider_phase phase car)) }
 {
     match (phase, car) {
         (0, 255) => Ok(RiderPhase::Waiting),
