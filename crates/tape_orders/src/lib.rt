@@ -4,7 +4,9 @@
 ghost use Rattle.std.specs.Prelude.{◌≡◌, ◌&&◌, ◌||◌, not, cond, ltb, eqb, Ok, Err};
 ghost use Rattle.world.specs.declared.refusal.Refusal.TheVariants.{FieldOutside};
 ghost use Rattle.tape_records.specs.Answers.{answer, nonzero};
-ghost use Rattle.tape_orders.specs.OrderRecords.{send_record, mode_record, manual_speed_record, command_of, door_command_record, hall_call_record, destination_record, enable_record, any_field_set, tick_record, start_record};
+ghost use Rattle.tape_orders.specs.OrderRecords.{send_record, mode_record, manual_speed_record, command_of};
+ghost use Rattle.tape_orders.specs.OrderRecords.{door_command_record, hall_call_record, destination_record};
+ghost use Rattle.tape_orders.specs.OrderRecords.{enable_record, any_field_set, tick_record, start_record};
 
 use door::DoorCommand;
 use fields::body::{float_at, outside_above_zero, outside_size, raw_zero_at};
