@@ -35,7 +35,7 @@ use Rattle.arrival.specs.Arrival.{asks_work, work_of}
 use Rattle.trips.specs.declared.Trip.{Trip}
 use Rattle.trips.specs.declared.Trip.TheVariants.{Rests, Drives, GoesTo, Repositions}
 use Rattle.movement_system.specs.Movement.{passes, arrives, move_by, move_of, moved}
-use Rattle.movement_system.specs.Parts.{words_by, moves_by, Tells}
+use Rattle.movement_system.specs.Parts.{TellsTurn}
 use Rattle.moves.specs.Moves.{comes, come, distance_by}
 
 -- ---- what is read in a turn
@@ -162,9 +162,7 @@ looked dt w i trip kind leader r lamps et t ek lead er wk = record {
 
 -- the words that it told by the sort of the stops, and how many moves they are
 abbrev pub ToldBy : World → ℕ → Trip → LineKind → Landed → Lamps → Stops → Log → Log → ℕ → Type 0
-ToldBy w i trip kind r lamps sort l l' x =
-    let c = car_at w.cars.items i in
-    Tells (words_by trip i kind sort.items (min sort.count 64) c r lamps) (moves_by trip kind sort.items (min sort.count 64) c r) l l' x
+ToldBy w i trip kind r lamps sort = TellsTurn trip i kind sort (car_at w.cars.items i) r lamps
 
 -- the car goes on
 pub goes_on_lem : (dt : Float) (world w w' : World) (l l' l'' l''' : Log) (i : ℕ) (trip : Trip) (kind : LineKind) (r : Landed) (lamps : Lamps)

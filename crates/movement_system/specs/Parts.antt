@@ -1,5 +1,5 @@
 -- Parts of the code, cited within the library alone, on which the promise of `record` does not rest: what a car tells and its moves (proofs/Moving.antt has that they are the turn's), the order of a world's stops.
-use Rattle.std.specs.Prelude.{◌≡◌, cond, List, ℕ, min, length, Float}
+use Rattle.std.specs.Prelude.{◌≡◌, cond, List, ℕ, min, length, Float, Option}
 use Rattle.landing.specs.declared.Landed.{Landed}
 use Rattle.world.specs.declared.Car.{Car}
 use Rattle.world.specs.declared.LineKind.{LineKind}
@@ -9,13 +9,27 @@ use Rattle.world.specs.Tables.{Stops}
 use Rattle.sorted.specs.Sorted.{sorted_stops}
 use Rattle.trips.specs.Spans.{moving_up}
 use Rattle.trips.specs.declared.Trip.{Trip}
-use Rattle.movement_system.specs.Passing.{passing_words}
+use Rattle.trips.specs.declared.span.Ends.{Ends}
+use Rattle.trips.specs.declared.span.Span.{Span}
+use Rattle.movement_system.specs.Passing.{start_of, end_of, between, emit_range, passed, passing_words}
 use Rattle.movement_system.specs.Movement.{passed_by}
 use Rattle.moves.specs.Moves.{comes, coming_words}
 
 -- the numbers of the stops below their count, in the order of their sort
 abbrev pub order_of : Stops → List ℕ
 order_of stops = sorted_stops stops.items (min stops.count 64)
+
+-- those above the first threshold and below the second
+abbrev pub stops_between : Stops → Float → Float → List ℕ
+stops_between stops from to =
+    let sorted = order_of stops in between sorted (start_of stops.items sorted from) (end_of stops.items sorted to)
+
+-- those passed in a range, and in a tick's one or two, without the target
+abbrev pub range_stops : Ends → Stops → Option ℕ → List ℕ
+range_stops ends stops target = emit_range stops.items (order_of stops) target ends.lo ends.hi ends.inclusive
+
+abbrev pub span_stops : Span → Stops → Option ℕ → List ℕ
+span_stops span stops target = passed span stops.items (order_of stops) target
 
 -- a turn's words, and how many moves it is
 abbrev pub words_by : Trip → ℕ → LineKind → List Float → ℕ → Car → Landed → Lamps → List ℕ
@@ -32,3 +46,8 @@ moves_by trip kind stops n c r = cond (comes trip r.arrived) 1 (length (passed_b
 pub record Tells (words : List ℕ) (moves : ℕ) (l : Log) (l' : Log) (n : ℕ) : Type 0 where
   pub count : n ≡ moves
   pub told : Told l words l'
+
+-- those of a car's turn, by the sort of these stops
+abbrev pub TellsTurn : Trip → ℕ → LineKind → Stops → Car → Landed → Lamps → Log → Log → ℕ → Type 0
+TellsTurn trip i kind stops c r lamps =
+    let n = min stops.count 64 in Tells (words_by trip i kind stops.items n c r lamps) (moves_by trip kind stops.items n c r)

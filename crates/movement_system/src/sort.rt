@@ -1,7 +1,7 @@
 // The stops of a world in the order of their sort: movement.rs looks up in it which stops a range has.
 ghost use Rattle.std.specs.Prelude.{◌≡◌};
 ghost use Rattle.movement_system.specs.Passing as Passing;
-ghost use Rattle.movement_system.specs.Parts.{order_of};
+ghost use Rattle.movement_system.specs.Parts.{order_of, stops_between};
 
 use lookup::stops::stop_position;
 use sorted::sorted_stops;
@@ -59,7 +59,7 @@ impl SortedStops {
     // instructions more at 2, 16 or 64 stops, of 17,000 to 20,000.
     #[tactic(auto, using(crate::proofs::Emitting::start_within))]
     pub(crate) fn between(&self, from: f64, to: f64) -> &[u8]
-        ensures { result.now ≡ Passing.between (order_of self.now) (Passing.start_of self.now.items (order_of self.now) from) (Passing.end_of self.now.items (order_of self.now) to) }
+        ensures { result.now ≡ stops_between self.now from to }
     {
         let rest = &self.sorted()[self.count_up_to(from)..];
         let below = |stop: &&u8| stop_position(&self.stops.items, **stop) < to;
