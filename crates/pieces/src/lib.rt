@@ -80,7 +80,8 @@ fn play_words(
 ) -> Played
     requires words { words.now ≡ words_of piece.now }
     requires empty { IsEmpty out.old }
-    ensures { Reached study.new result piece.now out.old log.new out.new (play_to (2 + length piece.now) ended (playing study.old log.old piece.now)) }
+    ensures { Reached study.new result piece.now out.old log.new out.new
+        (play_to (2 + length piece.now) ended (playing study.old log.old piece.now)) }
 {
     let mut from: usize = 0;
     let mut refusal = None;
@@ -105,7 +106,8 @@ fn play_bytes(
 ) -> Played
     requires few { length bytes.now ≤ 16384 }
     requires empty { IsEmpty out.old }
-    ensures { Reached study.new result bytes.now out.old log.new out.new (play_to (2 + length bytes.now) ended (playing study.old log.old bytes.now)) }
+    ensures { Reached study.new result bytes.now out.old log.new out.new
+        (play_to (2 + length bytes.now) ended (playing study.old log.old bytes.now)) }
 {
     let mut words = [0u32; 4096];
     let mut read = Writer::new(&mut words);
