@@ -4,10 +4,11 @@ use Rattle.world.specs.World.{car_at}
 use Rattle.world.specs.declared.World.{World}
 use Rattle.world.specs.declared.Car.{Car}
 use Rattle.world.specs.declared.Line.{Line}
+use Rattle.world.specs.Tables.{Stops}
 use Rattle.std.specs.declared.option.Option.{Option}
 use Rattle.next_stop.specs.NextStop.{loop_next_stop_for_car}
 use Rattle.steps.specs.Steps.{line_of, Step, Run, step_of, run_cars}
-use Rattle.door_commands.specs.Commands.{at_stop, has_rider_traversing, process_door_commands, command_words}
+use Rattle.door_commands.specs.Commands.{has_rider_traversing, parked, process_door_commands, command_words}
 use Rattle.door_ticks.specs.Ticks.{Turn, rests, stays, door_by, after}
 use Rattle.hall_calls.specs.Clearing.{clear_to, clear_words_to}
 
@@ -24,11 +25,14 @@ door_turn i c at_stop traversing next =
 abbrev pub has_turn : Car → Bool
 has_turn c = c.enabled && (not (eqb c.door_command_queue.count 0) || not (stays c))
 
--- the turn of a car on its line
+-- the turn of a car on a line, among these stops
+abbrev pub turn_among : Stops → ℕ → Car → Line → Bool → Turn
+turn_among stops i c line traversing =
+    door_turn i c (parked line stops c) traversing (loop_next_stop_for_car line stops.items c.motion.position)
+
+-- and on its line in the world
 abbrev pub turn_on : World → ℕ → Car → Line → Turn
-turn_on w i c line =
-    door_turn i c (at_stop line w.stops c.motion.position) (has_rider_traversing w.riders i)
-    (loop_next_stop_for_car line w.stops.items c.motion.position)
+turn_on w i c line = turn_among w.stops i c line (has_rider_traversing w.riders i)
 
 abbrev pub step_by : World → Turn → Step
 step_by w t = step_of w t.car t.words t.opened
