@@ -1,5 +1,5 @@
 -- The hall calls that clear: systems/doors.rs, clear_matching_hall_calls. "Hall calls clear after all cars"
-use Rattle.std.specs.Prelude.{◌≡◌, Bool, true, false, ◌&&◌, cond, List, [], ◌∷◌, ◌++◌, ℕ, zero, suc, get_or}
+use Rattle.std.specs.Prelude.{◌≡◌, Bool, true, false, ◌&&◌, cond, List, [], ◌∷◌, ◌++◌, ℕ, zero, suc, min, length, get_or}
 use Rattle.call_sets.specs.Calls.{called, cleared}
 use Rattle.std.specs.declared.option.Option.{Option}
 use Rattle.std.specs.declared.option.Option.TheVariants.{None, Some}
@@ -46,3 +46,7 @@ module _ (opened : List (Option JustOpened)) (h : Calls) where
 pub record Clears (h : Calls) (words : List ℕ) (l : Log) (l' : Log) (r : Calls) : Type 0 where
   pub calls : r ≡ h
   pub told : Told l words l'
+
+-- for what all cars opened: the first 16, whose numbers have words
+abbrev pub ClearsAll : List (Option JustOpened) → Calls → Log → Log → Calls → Type 0
+ClearsAll opened h = let n = min (length opened) 16 in Clears (clear_to opened h n) (clear_words_to opened h n)
