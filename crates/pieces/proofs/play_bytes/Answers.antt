@@ -1,5 +1,5 @@
 -- `pieces::play_bytes` meets its contract: 16,384 bytes have no more words than the buffer's 4,096, so its first
--- `count` are all of them, as `play_words` asks. Assumes nothing.
+-- `count` are all of them, as `pieces::play_words` asks. Assumes nothing.
 use Rattle.std.proofs.Common.{rules, arith}
 use lib.ListN.{length-replicate}
 use Rattle.log_writes.proofs.Writing.{wrote_taken}
