@@ -11,7 +11,7 @@ use Rattle.world.specs.declared.ElevatorPhase.TheVariants.{Idle, MovingToStop, R
 use Rattle.std.specs.declared.option.Option.{Option}
 use Rattle.std.specs.declared.option.Option.TheVariants.{None, Some}
 use Rattle.log_words.specs.Words.{word_of}
-use Rattle.log_writes.specs.Told.{Told, Log}
+use Rattle.log_writes.specs.Parts.{Told, Log}
 use Rattle.log_words.specs.declared.Event.TheVariants.{DoorOpened, DoorClosed, ElevatorDeparted}
 use Rattle.steps.specs.Steps.{is_inspection, both_lit, unlit, update_indicators, not_opened}
 use Rattle.steps.specs.declared.JustOpened.{JustOpened}

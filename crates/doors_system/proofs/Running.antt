@@ -20,7 +20,7 @@ use lib.Ieee.{Float}
 use Rattle.door_ticks.proofs.Turning.{then}
 use Rattle.std.specs.declared.option.Option.{Option}
 use Rattle.next_stop.specs.NextStop.{loop_next_stop_for_car}
-use Rattle.log_writes.specs.Told.{Told, Log}
+use Rattle.log_writes.specs.Parts.{Told, Log}
 use Rattle.log_writes.proofs.Telling.{told_none, told_also}
 use Rattle.steps.specs.Steps.{Step, line_of, not_opened, step_of, stepped, run_to, run_cars}
 use Rattle.steps.proofs.Cars.{by_turns, stepped_same}

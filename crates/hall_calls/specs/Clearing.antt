@@ -4,7 +4,7 @@ use Rattle.call_sets.specs.Calls.{called, cleared}
 use Rattle.std.specs.declared.option.Option.{Option}
 use Rattle.std.specs.declared.option.Option.TheVariants.{None, Some}
 use Rattle.log_words.specs.Words.{word_of}
-use Rattle.log_writes.specs.Told.{Told, Log}
+use Rattle.log_writes.specs.Parts.{Told, Log}
 use Rattle.log_words.specs.declared.Event.TheVariants.{HallCallCleared}
 use Rattle.steps.specs.Steps.{not_opened}
 use Rattle.steps.specs.declared.JustOpened.{JustOpened}

@@ -3,7 +3,7 @@ use Rattle.std.specs.Prelude.{◌≡◌, cond, List, ℕ, min, length, Float}
 use Rattle.landing.specs.declared.Landed.{Landed}
 use Rattle.world.specs.declared.Car.{Car}
 use Rattle.world.specs.declared.LineKind.{LineKind}
-use Rattle.log_writes.specs.Told.{Told, Log}
+use Rattle.log_writes.specs.Parts.{Told, Log}
 use Rattle.world.specs.declared.Lamps.{Lamps}
 use Rattle.world.specs.Tables.{Stops}
 use Rattle.sorted.specs.Sorted.{sorted_stops}

@@ -13,7 +13,7 @@ use lib.Seq.{take_all, drop-drop}
 use Rattle.laws.proofs.Bools.{and_left, and_right}
 use Rattle.laws.proofs.Counting.{bit_small}
 use Rattle.log_writes.specs.Log.{Wrote}
-use Rattle.log_writes.specs.Told.{Told as Prints}
+use Rattle.log_writes.specs.Parts.{Told as Prints}
 use Rattle.log_writes.specs.declared.Writer.{Writer}
 use Rattle.log_writes.proofs.Writing.{wrote_length, wrote_fits}
 use Rattle.log_writes.proofs.Telling.{told_none, told_also}

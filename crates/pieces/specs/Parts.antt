@@ -1,6 +1,6 @@
 -- What the private functions give.
 use Rattle.std.specs.Prelude.{◌≡◌, Bool, true, cond, List, [], ℕ, ◌*◌, ◌/◌, ◌≤◌, length, drop, Option}
-use Rattle.log_writes.specs.Told.{Told as Prints}
+use Rattle.log_writes.specs.Parts.{Told as Prints}
 use Rattle.log_writes.specs.declared.Writer.{Writer}
 use Rattle.study_text.specs.Text.{words_of}
 use Rattle.world.specs.declared.refusal.Refusal.{Refusal}

@@ -5,7 +5,7 @@ use Rattle.std.specs.Result.{result_err}
 use Rattle.laws.specs.Numbers.{plus}
 use Rattle.world.specs.declared.refusal.Refusal.{Refusal}
 use Rattle.world.specs.declared.refusal.Refusal.TheVariants.{CutShort}
-use Rattle.log_writes.specs.Told.{Told as Prints}
+use Rattle.log_writes.specs.Parts.{Told as Prints}
 use Rattle.log_writes.specs.declared.Writer.{Writer}
 use Rattle.record.specs.Record.{Answer}
 use Rattle.report.specs.Report.{count_more, counted_report}
