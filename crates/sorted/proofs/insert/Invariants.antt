@@ -1,7 +1,7 @@
 -- What the loops keep.
 use mathlib.Core.Path.{◌≡◌}
 use Prim.Native.Nat.{◌+◌, ◌≤◌}
-use Rattle.sorted.specs.Sorted.{sorted_table}
+use Rattle.sorted.specs.Parts.{sorted_table}
 use Rattle.sorted.proofs.Insertion.{from_back}
 use Rattle.sorted.proofs.insert.Given as goal
 
