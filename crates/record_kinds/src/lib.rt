@@ -3,6 +3,7 @@
 
 ghost use Rattle.std.specs.Prelude.{◌≡◌, true};
 ghost use Rattle.record_kinds.specs.Kinds as Kinds;
+ghost use Rattle.record_kinds.specs.Parts.{tick_taken};
 ghost use Rattle.record_kinds.specs.PaperRoom.{PaperRoom};
 
 use changes::Changed;
@@ -35,9 +36,9 @@ pub fn change(world: World, read: Record) -> Changed
 }
 
 // Kind C, with a log of `room` words: 6, 11 and 12, or the tick is taken.
-#[tactic(auto, using(crate::proofs::Proved::small), unfolding(crate::specs::Kinds::tick_taken))]
+#[tactic(auto, using(crate::proofs::Proved::small), unfolding(crate::specs::Parts::tick_taken))]
 pub fn take_tick(world: &World, room: usize) -> Result<(), Refusal>
-    ensures { result ≡ Kinds.tick_taken world.now.started world.now.ticks world.now.cars.count world.now.stops.count room }
+    ensures { result ≡ tick_taken world.now.started world.now.ticks world.now.cars.count world.now.stops.count room }
 {
     refuse_if(!world.started, Refusal::NotNow)?;
     refuse_if(0x1000_0000 <= world.ticks, Refusal::LastTick)?;
