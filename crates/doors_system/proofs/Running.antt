@@ -29,7 +29,8 @@ use Rattle.door_commands.specs.Commands.{at_stop, has_rider_traversing, unworked
 use Rattle.door_commands.specs.Parts.{Works}
 use Rattle.doors_system.specs.Doors.{turn_by, door_turn, has_turn, turn_on, step_by, door_of, doored, cars_of, doors_world, doors_words}
 use Rattle.door_ticks.specs.Ticks.{Turn, rests, stays, door_by, Turns}
-use Rattle.hall_calls.specs.Clearing.{Clears, clear_to, clear_words_to}
+use Rattle.hall_calls.specs.Clearing.{clear_to, clear_words_to}
+use Rattle.hall_calls.specs.Parts.{Clears}
 use Rattle.door.specs.declared.DoorCommand.{DoorCommand}
 use Rattle.world.specs.Tables.{Queue}
 use Rattle.world.specs.declared.Calls.{Calls}
