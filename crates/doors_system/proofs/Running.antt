@@ -27,7 +27,8 @@ use Rattle.steps.proofs.Cars.{by_turns, stepped_same}
 use Rattle.steps.specs.declared.JustOpened.{JustOpened}
 use Rattle.door_commands.specs.Commands.{at_stop, has_rider_traversing, unworked, commanded, process_door_commands, command_words}
 use Rattle.door_commands.specs.Parts.{Works}
-use Rattle.doors_system.specs.Doors.{turn_by, door_turn, has_turn, turn_on, step_by, door_of, doored, cars_of, doors_world, doors_words}
+use Rattle.doors_system.specs.Doors.{turn_by, door_turn, turn_on, step_by, door_of, doored, cars_of, doors_world, doors_words}
+use Rattle.doors_system.specs.Parts.{has_turn}
 use Rattle.door_ticks.specs.Ticks.{Turn, rests, stays, door_by}
 use Rattle.door_ticks.specs.Parts.{Turns}
 use Rattle.hall_calls.specs.Clearing.{clear_to, clear_words_to}
