@@ -1,5 +1,6 @@
--- Parts of the code, cited within the library alone, on which the promise of `record` does not rest: what a car tells and its moves (proofs/Moving.antt has that they are the turn's), the order of a world's stops.
-use Rattle.std.specs.Prelude.{◌≡◌, cond, List, ℕ, min, length, Float}
+-- Parts of the code, cited within the library alone, on which the promise of `record` does not rest: what a car tells
+-- and its moves (proofs/Moving.antt has that they are the turn's), the order of a world's stops.
+use Rattle.std.specs.Prelude.{◌≡◌, cond, List, ℕ, min, length, Float, Bool}
 use Rattle.landing.specs.declared.Landed.{Landed}
 use Rattle.world.specs.declared.Car.{Car}
 use Rattle.world.specs.declared.LineKind.{LineKind}
@@ -32,3 +33,8 @@ moves_by trip kind stops n c r = cond (comes trip r.arrived) 1 (length (passed_b
 pub record Tells (words : List ℕ) (moves : ℕ) (l : Log) (l' : Log) (n : ℕ) : Type 0 where
   pub count : n ≡ moves
   pub told : Told l words l'
+
+-- stops told by code: n, as it answers, and their words
+pub record Emits (ss : List ℕ) (i : ℕ) (up : Bool) (l : Log) (l' : Log) (n : ℕ) : Type 0 where
+  pub count : n ≡ length ss
+  pub told : Told l (passing_words i up ss) l'
