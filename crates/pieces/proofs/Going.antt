@@ -28,7 +28,8 @@ use Rattle.report.specs.declared.Counts.{Counts}
 use Rattle.study_text.specs.Text.{words_of}
 use Rattle.study_text.specs.declared.Place.{Place}
 use Rattle.study_text.proofs.Keeping.{take_min}
-use Rattle.play.specs.Play.{told, counts_after, place_after, uses, ending, ending_refusal, Tells}
+use Rattle.play.specs.Play.{told, counts_after, place_after, ending, ending_refusal}
+use Rattle.play.specs.Parts.{uses, Tells}
 use Rattle.pieces.specs.Pieces.{Playing, next_record, ready, goes, play_to, ends, closed, close, advanced, playing, Gives}
 use Rattle.pieces.specs.Parts.{IsEmpty, Reached, ClosesBy, Closes}
 use Rattle.pieces.specs.declared.Played.{Played}
