@@ -30,8 +30,8 @@ use Rattle.study_text.specs.declared.Place.{Place}
 use Rattle.study_text.proofs.Keeping.{take_min}
 use Rattle.play.specs.Play.{told, counts_after, place_after, ending, ending_refusal}
 use Rattle.play.specs.Parts.{uses, Tells}
-use Rattle.pieces.specs.Pieces.{Playing, next_record, ready, goes, play_to, ends, closed, close, advanced, playing, Gives}
-use Rattle.pieces.specs.Parts.{IsEmpty, Reached, ClosesBy, Closes}
+use Rattle.pieces.specs.Pieces.{Playing, playing}
+use Rattle.pieces.specs.Parts.{next_record, ready, goes, play_to, ends, closed, close, advanced, Gives, IsEmpty, Reached, ClosesBy, Closes}
 use Rattle.pieces.specs.declared.Played.{Played}
 use Rattle.pieces.specs.declared.Study.{Study}
 use Rattle.pieces.specs.declared.Advanced.{Advanced}

@@ -18,7 +18,8 @@ use Rattle.conditions.proofs.Answering.{first_condition}
 use Rattle.report.specs.declared.Counts.{Counts}
 use Rattle.study_text.specs.Text.{word, words_of}
 use Rattle.play.specs.Play.{told, counts_after}
-use Rattle.pieces.specs.Pieces.{Playing, next_record, ready, goes, play_to, ends, closed, close, advanced}
+use Rattle.pieces.specs.Pieces.{Playing}
+use Rattle.pieces.specs.Parts.{next_record, ready, goes, play_to, ends, closed, close, advanced}
 use Rattle.whole_tape.proofs.AtHand.{by_records}
 use Rattle.pieces.proofs.Sizes.{words_drop, words_few}
 use Rattle.laws.proofs.Bools.{and_left, and_right}

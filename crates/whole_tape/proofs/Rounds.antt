@@ -11,7 +11,8 @@ use lib.ListN.{length, length-append}
 use Rattle.laws.proofs.Bools.{no, and_left}
 use Rattle.laws.proofs.Counting.{bit_small}
 use Rattle.laws.specs.Numbers.{bit}
-use Rattle.pieces.specs.Pieces.{Playing, playing, advanced}
+use Rattle.pieces.specs.Pieces.{Playing, playing}
+use Rattle.pieces.specs.Parts.{advanced}
 use Rattle.pieces.specs.declared.Study.{Study}
 use Rattle.study_step.specs.Step.{Reading, Read, Failed, Unasked, Running, reads, played, stepped}
 use Rattle.whole_tape.specs.Place.{error_text}
