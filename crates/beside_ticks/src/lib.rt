@@ -6,6 +6,7 @@ ghost use Rattle.float.specs.Float.{number_bits};
 ghost use Rattle.record.specs.Record.{used_of, written_of};
 ghost use Rattle.laws.specs.Numbers.{plus};
 ghost use Rattle.beside_ticks.specs.Bench as Bench;
+ghost use Rattle.beside_ticks.specs.Parts.{Reached};
 
 use float::number_bits;
 use lent::record_in_place;
@@ -31,7 +32,7 @@ fn told_by(answer: Answer) -> Accepted
 // By the call that takes the world by value.
 #[tactic(auto, using(crate::proofs::Playing::begins))]
 fn by_value(words: &[u32], log: &mut [u32], records: u64) -> Played
-    ensures { Bench.Reached (Bench.played_to words.now log.old records) result.world log.new result.used result.written }
+    ensures { Reached (Bench.played_to words.now log.old records) result.world log.new result.used result.written }
 {
     let mut world = empty();
     let mut used: usize = 0;
@@ -54,7 +55,7 @@ fn by_value(words: &[u32], log: &mut [u32], records: u64) -> Played
 // Stays: two loops. One over a trait of record calls makes and clears a world more in each turn: 21,700 instructions a tick in place of 11,200.
 #[tactic(auto, using(crate::proofs::Playing::begins))]
 fn by_lending(words: &[u32], log: &mut [u32], records: u64) -> Played
-    ensures { Bench.Reached (Bench.played_to words.now log.old records) result.world log.new result.used result.written }
+    ensures { Reached (Bench.played_to words.now log.old records) result.world log.new result.used result.written }
 {
     let mut world = empty();
     let mut used: usize = 0;
