@@ -7,7 +7,8 @@ use Rattle.record.specs.Record.{Answer, Outcome, record_of, used_of, written_of}
 use Rattle.conditions.specs.Conditions.{FirstCondition}
 use Rattle.conditions.proofs.Answering.{first_condition}
 use Rattle.laws.specs.Numbers.{plus}
-use Rattle.beside_ticks.specs.Bench.{played_to, Reached}
+use Rattle.beside_ticks.specs.Bench.{played_to}
+use Rattle.beside_ticks.specs.Parts.{Reached}
 
 -- before the first
 pub begins : (words log : List ℕ) {w : World} → w ≡ empty_world → Reached (played_to words log 0) w log 0 0

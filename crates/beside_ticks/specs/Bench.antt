@@ -1,5 +1,5 @@
 -- What a run of the bench answers: the first records of a tape from the empty world on, and a sum over what they leave.
-use Rattle.std.specs.Prelude.{◌≡◌, ℕ, zero, suc, ◌+◌, List, drop, replicate}
+use Rattle.std.specs.Prelude.{ℕ, zero, suc, ◌+◌, List, drop, replicate}
 use Rattle.float.specs.Float.{number_bits}
 use Rattle.world.specs.World.{car_at, empty_world}
 use Rattle.world.specs.declared.World.{World}
@@ -30,13 +30,6 @@ played_to words log zero = record { world = empty_world; log = log; used = 0; wr
 played_to words log (suc n) =
     let p = played_to words log n in
     after p (record_of p.world (drop p.used words) p.log)
-
--- the code stands there
-pub record Reached (p : Playing) (w : World) (left : List ℕ) (from told : ℕ) : Type 0 where
-  pub world : w ≡ p.world
-  pub log : left ≡ p.log
-  pub used : from ≡ p.used
-  pub written : told ≡ p.written
 
 -- ---- the sum
 

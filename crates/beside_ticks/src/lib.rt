@@ -6,7 +6,8 @@ ghost use Rattle.float.specs.Float.{number_bits};
 ghost use Rattle.record.specs.Record.{used_of, written_of};
 ghost use Rattle.laws.specs.Numbers.{plus};
 ghost use Rattle.beside_ticks.specs.Bench as Bench;
-ghost use Rattle.beside_ticks.specs.Bench.{Reached, played_to};
+ghost use Rattle.beside_ticks.specs.Bench.{played_to};
+ghost use Rattle.beside_ticks.specs.Parts.{Reached};
 
 use float::number_bits;
 use lent::record_in_place;

@@ -33,13 +33,6 @@ pub record Ticked : Type 0 where
 abbrev pub ticked : DoorState → DoorTransition → Ticked
 ticked d t = record { door = d; transition = t }
 
--- one tick fewer remains of its phase
-abbrev pub one_less : DoorState → DoorState
-one_less Closed = Closed
-one_less (Opening ticks od cd) = Opening (ticks - 1) od cd
-one_less (Open ticks cd) = Open (ticks - 1) cd
-one_less (Closing ticks) = Closing (ticks - 1)
-
 -- door.rs, DoorState::tick
 abbrev pub tick : DoorState → Ticked
 tick Closed = ticked Closed None

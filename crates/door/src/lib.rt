@@ -2,7 +2,8 @@
 #![tactic(auto)]
 
 ghost use Rattle.std.specs.Prelude.{◌≡◌, true};
-ghost use Rattle.door.specs.Door.{request_open, one_less, tick, is_open, is_closed};
+ghost use Rattle.door.specs.Door.{request_open, tick, is_open, is_closed};
+ghost use Rattle.door.specs.Parts.{one_less};
 ghost use Rattle.door.specs.Phases.{PhasesEnd};
 
 // Where a door stands, with the ticks left there and those of the phases to come.

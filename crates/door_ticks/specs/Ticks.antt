@@ -1,5 +1,5 @@
 -- The door's tick of a car: systems/doors.rs, run, after the commands.
-use Rattle.std.specs.Prelude.{◌≡◌, Bool, true, false, not, ◌&&◌, ◌||◌, cond, List, [], ◌∷◌, ◌++◌, ℕ}
+use Rattle.std.specs.Prelude.{Bool, true, false, not, ◌&&◌, ◌||◌, cond, List, [], ◌∷◌, ◌++◌, ℕ}
 use Rattle.door.specs.Door.{is_closed, is_open, tick}
 use Rattle.door.specs.declared.DoorState.{DoorState}
 use Rattle.door.specs.declared.DoorTransition.{DoorTransition}
@@ -11,7 +11,6 @@ use Rattle.world.specs.declared.ElevatorPhase.TheVariants.{Idle, MovingToStop, R
 use Rattle.std.specs.declared.option.Option.{Option}
 use Rattle.std.specs.declared.option.Option.TheVariants.{None, Some}
 use Rattle.log_words.specs.Words.{word_of}
-use Rattle.log_writes.specs.Told.{Told, Log}
 use Rattle.log_words.specs.declared.Event.TheVariants.{DoorOpened, DoorClosed, ElevatorDeparted}
 use Rattle.steps.specs.Steps.{is_inspection, both_lit, unlit, update_indicators, not_opened}
 use Rattle.steps.specs.declared.JustOpened.{JustOpened}
@@ -83,12 +82,6 @@ stays c = (is_closed c.door && not (is_door_opening c.phase)) || (is_inspection 
 -- run, after the commands: the car is as they left it
 abbrev pub door_by : ℕ → Car → Option ℕ → Turn
 door_by i c next = cond (stays c) (rests c) (finish_by (tick c.door).transition i (rested c c.phase (tick c.door).door) next)
-
--- a turn made by code: the car, what it told the log, a door just opened
-pub record Turns (t : Turn) (l : Log) (l' : Log) (c : Car) (opened : Option JustOpened) : Type 0 where
-  pub car : c ≡ t.car
-  pub told : Told l t.words l'
-  pub opens : opened ≡ t.opened
 
 -- a turn after words of its own
 abbrev pub after : List ℕ → Turn → Turn

@@ -21,15 +21,19 @@ use lib.Ieee.{Float}
 use Rattle.door_ticks.proofs.Turning.{then}
 use Rattle.std.specs.declared.option.Option.{Option}
 use Rattle.next_stop.specs.NextStop.{loop_next_stop_for_car}
-use Rattle.log_writes.specs.Told.{Told, Log}
+use Rattle.log_writes.specs.Parts.{Told, Log}
 use Rattle.log_writes.proofs.Telling.{told_none, told_also}
 use Rattle.steps.specs.Steps.{Step, line_of, not_opened, step_of, stepped, run_to, run_cars}
 use Rattle.steps.proofs.Cars.{by_turns, stepped_same}
 use Rattle.steps.specs.declared.JustOpened.{JustOpened}
-use Rattle.door_commands.specs.Commands.{at_stop, has_rider_traversing, unworked, commanded, Works, process_door_commands, command_words}
-use Rattle.doors_system.specs.Doors.{turn_by, door_turn, has_turn, turn_on, step_by, door_of, doored, cars_of, doors_world, doors_words}
-use Rattle.door_ticks.specs.Ticks.{Turn, rests, stays, door_by, Turns}
-use Rattle.hall_calls.specs.Clearing.{Clears, clear_to, clear_words_to}
+use Rattle.door_commands.specs.Commands.{at_stop, has_rider_traversing, unworked, commanded, process_door_commands, command_words}
+use Rattle.door_commands.specs.Parts.{Works}
+use Rattle.doors_system.specs.Doors.{turn_by, door_turn, turn_on, step_by, door_of, doored, cars_of, doors_world, doors_words}
+use Rattle.doors_system.specs.Parts.{has_turn}
+use Rattle.door_ticks.specs.Ticks.{Turn, rests, stays, door_by}
+use Rattle.door_ticks.specs.Parts.{Turns}
+use Rattle.hall_calls.specs.Clearing.{clear_to, clear_words_to}
+use Rattle.hall_calls.specs.Parts.{Clears}
 use Rattle.door.specs.declared.DoorCommand.{DoorCommand}
 use Rattle.world.specs.Tables.{Queue}
 use Rattle.world.specs.declared.Calls.{Calls}

@@ -1,5 +1,5 @@
 -- The doors: systems/doors.rs, run.
-use Rattle.std.specs.Prelude.{Bool, not, ◌&&◌, ◌||◌, cond, List, ◌++◌, ℕ, min, eqb}
+use Rattle.std.specs.Prelude.{Bool, cond, List, ◌++◌, ℕ, min}
 use Rattle.world.specs.World.{car_at}
 use Rattle.world.specs.declared.World.{World}
 use Rattle.world.specs.declared.Car.{Car}
@@ -9,7 +9,7 @@ use Rattle.std.specs.declared.option.Option.{Option}
 use Rattle.next_stop.specs.NextStop.{loop_next_stop_for_car}
 use Rattle.steps.specs.Steps.{line_of, Step, Run, step_of, run_cars}
 use Rattle.door_commands.specs.Commands.{has_rider_traversing, parked, process_door_commands, command_words}
-use Rattle.door_ticks.specs.Ticks.{Turn, rests, stays, door_by, after}
+use Rattle.door_ticks.specs.Ticks.{Turn, rests, door_by, after}
 use Rattle.hall_calls.specs.Clearing.{clear_to, clear_words_to}
 
 -- run, for one car: "queued commands, loop's next stop, then the door's tick"
@@ -20,10 +20,6 @@ turn_by i c words next = after words (door_by i c next)
 abbrev pub door_turn : ℕ → Car → Bool → Bool → Option ℕ → Turn
 door_turn i c at_stop traversing next =
     cond c.enabled (turn_by i (process_door_commands c at_stop traversing) (command_words c at_stop traversing i) next) (rests c)
-
--- whether the turn may change anything: not of a disabled car, nor without a command where the door's tick is left out
-abbrev pub has_turn : Car → Bool
-has_turn c = c.enabled && (not (eqb c.door_command_queue.count 0) || not (stays c))
 
 -- the turn of a car on a line, among these stops
 abbrev pub turn_among : Stops → ℕ → Car → Line → Bool → Turn

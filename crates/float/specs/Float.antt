@@ -61,10 +61,6 @@ is_sign_negative nan = false
 is_sign_negative (inf s) = s
 is_sign_negative (fin s m e) = s
 
--- x is below y, or y alone is the nan: 0 and -0 alike, the nan last
-abbrev pub before : Float → Float → Bool
-before x y = lt x y || (not (is_nan x) && is_nan y)
-
 -- f64::total_cmp is Less. The page's order: negative infinity, negative numbers, negative zero, positive zero, positive numbers,
 -- positive infinity, positive NaN. The one nan is taken as positive; a negative NaN, which stands first there, has no name here.
 unfoldable pub total_before : Float → Float → Bool

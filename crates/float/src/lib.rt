@@ -4,6 +4,7 @@
 ghost use Rattle.std.specs.Prelude.{◌≡◌};
 ghost use Rattle.float.specs.Float as Float;
 ghost use Rattle.float.specs.Float.{number_bits};
+ghost use Rattle.float.specs.Parts.{before};
 
 mod remainder;
 
@@ -91,7 +92,7 @@ pub fn number_bits(x: f64) -> u64
 
 // Whether x is below y, or y alone is not a number: 0 and -0 alike, a NaN last.
 pub fn before(x: f64, y: f64) -> bool
-    ensures { result ≡ Float.before x y }
+    ensures { result ≡ before x y }
 {
     (x < y) | !x.is_nan() & y.is_nan()
 }

@@ -9,8 +9,9 @@ use Rattle.std.specs.declared.option.Option.{Option}
 use Rattle.steps.specs.Steps.{not_opened}
 use Rattle.steps.specs.declared.JustOpened.{JustOpened}
 use Rattle.world.specs.declared.Calls.{Calls}
-use Rattle.hall_calls.specs.Clearing.{clear_to, clear_words_to, Clears}
-use Rattle.log_writes.specs.Told.{Log}
+use Rattle.hall_calls.specs.Clearing.{clear_to, clear_words_to}
+use Rattle.hall_calls.specs.Parts.{Clears}
+use Rattle.log_writes.specs.Parts.{Log}
 
 module _ (os : List (Option JustOpened)) (h : Calls) (m : ℕ) where
   first_cleared : (n : ℕ) → n ≤ m → clear_to (take m os) h n ≡ clear_to os h n

@@ -1,10 +1,9 @@
 -- The hall calls that clear: systems/doors.rs, clear_matching_hall_calls. "Hall calls clear after all cars"
-use Rattle.std.specs.Prelude.{◌≡◌, Bool, true, false, ◌&&◌, cond, List, [], ◌∷◌, ◌++◌, ℕ, zero, suc, min, length, get_or}
+use Rattle.std.specs.Prelude.{Bool, true, false, ◌&&◌, cond, List, [], ◌∷◌, ◌++◌, ℕ, zero, suc, get_or}
 use Rattle.call_sets.specs.Calls.{called, cleared}
 use Rattle.std.specs.declared.option.Option.{Option}
 use Rattle.std.specs.declared.option.Option.TheVariants.{None, Some}
 use Rattle.log_words.specs.Words.{word_of}
-use Rattle.log_writes.specs.Told.{Told, Log}
 use Rattle.log_words.specs.declared.Event.TheVariants.{HallCallCleared}
 use Rattle.steps.specs.Steps.{not_opened}
 use Rattle.steps.specs.declared.JustOpened.{JustOpened}
@@ -41,12 +40,3 @@ module _ (opened : List (Option JustOpened)) (h : Calls) where
   unfoldable pub clear_words_to : ℕ → List ℕ
   clear_words_to zero = []
   clear_words_to (suc n) = clear_words_to n ++ clear_matching_words (opened_of n) n (clear_to n)
-
--- calls cleared by code: those that stand, and what it told the log
-pub record Clears (h : Calls) (words : List ℕ) (l : Log) (l' : Log) (r : Calls) : Type 0 where
-  pub calls : r ≡ h
-  pub told : Told l words l'
-
--- for what all cars opened: the first 16, whose numbers have words
-abbrev pub ClearsAll : List (Option JustOpened) → Calls → Log → Log → Calls → Type 0
-ClearsAll opened h = let n = min (length opened) 16 in Clears (clear_to opened h n) (clear_words_to opened h n)

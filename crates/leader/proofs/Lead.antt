@@ -18,7 +18,7 @@ use Rattle.laws.proofs.Bools.{no, and_left, and_right}
 use Rattle.float.proofs.Total.{total_order}
 use Rattle.world.specs.World.{car_at}
 use Rattle.leader.specs.Leader.{position_of, is_other, car_ahead, leader_or, leader_to, leader_pos, loop_leader_pos, IsOther, Led, LeaderIsNearest}
-use Rattle.leader.specs.Ahead.{nearer}
+use Rattle.leader.specs.Parts.{nearer}
 use Rattle.world.specs.declared.Car.{Car}
 use Rattle.std.specs.declared.option.Option.{Option}
 use Rattle.std.specs.Option.{option_map}

@@ -1,2 +1,2 @@
-pub mod Ahead
 pub mod Leader
+pub mod Parts

@@ -3,7 +3,7 @@
 
 ghost use Rattle.std.specs.Prelude.{◌≡◌, true};
 ghost use Rattle.leader.specs.Leader.{is_other_car, loop_leader_pos, LeaderIsNearest};
-ghost use Rattle.leader.specs.Ahead.{nearer};
+ghost use Rattle.leader.specs.Parts.{nearer};
 
 use float::total_before;
 use motion::cyclic::forward_distance;

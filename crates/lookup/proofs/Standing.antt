@@ -13,7 +13,8 @@ use Rattle.std.specs.List.{find, position_from}
 use Rattle.std.proofs.lemmas.Iterator.Adapters.{position_from-zero}
 use Rattle.std.specs.declared.option.Option.{Option}
 use Rattle.world.specs.World.{stop_at}
-use Rattle.world.specs.Tables.{Stops, listed}
+use Rattle.world.specs.Tables.{Stops}
+use Rattle.world.specs.Parts.{listed}
 use Rattle.world.specs.declared.Table.{Table}
 use Rattle.lookup.specs.Stops.{stands_at, first_standing, find_stop_at_position, find_stop_at_position_in}
 

@@ -17,7 +17,7 @@ use Rattle.world.specs.declared.Motion.{Motion}
 use Rattle.world.specs.declared.LineKind.TheVariants.{Linear, Loop}
 use Rattle.std.specs.declared.option.Option.{Option}
 use Rattle.std.specs.declared.option.Option.TheVariants.{None, Some}
-use Rattle.log_writes.specs.Told.{Told, Log}
+use Rattle.log_writes.specs.Parts.{Told, Log}
 use Rattle.log_writes.proofs.Telling.{told_also, told_none}
 use Rattle.steps.specs.Steps.{Step, line_of, step_of, stepped, not_opened, run_to, run_cars}
 use Rattle.world.specs.With.{with_motion}

@@ -1,9 +1,10 @@
--- Parts of the code, cited within the library alone, on which the promise of `record` does not rest: what a car tells and its moves (proofs/Moving.antt has that they are the turn's), the order of a world's stops.
-use Rattle.std.specs.Prelude.{◌≡◌, cond, List, ℕ, min, length, Float, Option}
+-- Parts of the code, cited within the library alone, on which the promise of `record` does not rest: what a car tells
+-- and its moves (proofs/Moving.antt has that they are the turn's), the order of a world's stops.
+use Rattle.std.specs.Prelude.{◌≡◌, cond, List, ℕ, min, length, Float, Bool, Option}
 use Rattle.landing.specs.declared.Landed.{Landed}
 use Rattle.world.specs.declared.Car.{Car}
 use Rattle.world.specs.declared.LineKind.{LineKind}
-use Rattle.log_writes.specs.Told.{Told, Log}
+use Rattle.log_writes.specs.Parts.{Told, Log}
 use Rattle.world.specs.declared.Lamps.{Lamps}
 use Rattle.world.specs.Tables.{Stops}
 use Rattle.sorted.specs.Sorted.{sorted_stops}
@@ -50,4 +51,10 @@ pub record Tells (words : List ℕ) (moves : ℕ) (l : Log) (l' : Log) (n : ℕ)
 -- those of a car's turn, by the sort of these stops
 abbrev pub TellsTurn : Trip → ℕ → LineKind → Stops → Car → Landed → Lamps → Log → Log → ℕ → Type 0
 TellsTurn trip i kind stops c r lamps =
-    let n = min stops.count 64 in Tells (words_by trip i kind stops.items n c r lamps) (moves_by trip kind stops.items n c r)
+    let n = min stops.count 64 in
+    Tells (words_by trip i kind stops.items n c r lamps) (moves_by trip kind stops.items n c r)
+
+-- stops told by code: n, as it answers, and their words
+pub record Emits (ss : List ℕ) (i : ℕ) (up : Bool) (l : Log) (l' : Log) (n : ℕ) : Type 0 where
+  pub count : n ≡ length ss
+  pub told : Told l (passing_words i up ss) l'

@@ -20,7 +20,7 @@ pub struct SortedStops {
 impl Model for SortedStops {
     ghost use Rattle.std.specs.Prelude.{◌≡◌, min};
     ghost use Rattle.world.specs.Tables.{Stops};
-    ghost use Rattle.sorted.specs.Sorted.{sorted_table};
+    ghost use Rattle.sorted.specs.Parts.{sorted_table};
 
     ghost Value = { Stops };
 

@@ -13,7 +13,7 @@ use lib.Seq.{take_all, drop-drop}
 use Rattle.laws.proofs.Bools.{and_left, and_right}
 use Rattle.laws.proofs.Counting.{bit_small}
 use Rattle.log_writes.specs.Log.{Wrote}
-use Rattle.log_writes.specs.Told.{Told as Prints}
+use Rattle.log_writes.specs.Parts.{Told as Prints}
 use Rattle.log_writes.specs.declared.Writer.{Writer}
 use Rattle.log_writes.proofs.Writing.{wrote_length, wrote_fits}
 use Rattle.log_writes.proofs.Telling.{told_none, told_also}
@@ -28,9 +28,10 @@ use Rattle.report.specs.declared.Counts.{Counts}
 use Rattle.study_text.specs.Text.{words_of}
 use Rattle.study_text.specs.declared.Place.{Place}
 use Rattle.study_text.proofs.Keeping.{take_min}
-use Rattle.play.specs.Play.{told, counts_after, place_after, uses, ending, ending_refusal, Tells}
-use Rattle.pieces.specs.Pieces.{Playing, next_record, ready, goes, play_to, ends, closed, close, advanced, playing, Gives}
-use Rattle.pieces.specs.Parts.{IsEmpty, Reached, ClosesBy, Closes}
+use Rattle.play.specs.Play.{told, counts_after, place_after, ending, ending_refusal}
+use Rattle.play.specs.Parts.{uses, Tells}
+use Rattle.pieces.specs.Pieces.{Playing, playing}
+use Rattle.pieces.specs.Parts.{next_record, ready, goes, play_to, ends, closed, close, advanced, Gives, IsEmpty, Reached, ClosesBy, Closes}
 use Rattle.pieces.specs.declared.Played.{Played}
 use Rattle.pieces.specs.declared.Study.{Study}
 use Rattle.pieces.specs.declared.Advanced.{Advanced}

@@ -3,9 +3,8 @@
 
 ghost use Rattle.std.specs.Prelude.{◌≡◌, ◌+◌, ◌≤◌, length, take};
 ghost use Rattle.study_text.specs.Text.{words_of};
-ghost use Rattle.pieces.specs.Pieces.{Gives, advanced, playing, play_to, fresh};
-ghost use Rattle.pieces.specs.Pieces.{goes as goes_on};
-ghost use Rattle.pieces.specs.Parts.{IsEmpty, Reached, Closes};
+ghost use Rattle.pieces.specs.Pieces.{playing, fresh};
+ghost use Rattle.pieces.specs.Parts.{Gives, advanced, play_to, goes as goes_on, IsEmpty, Reached, Closes};
 
 use lent::record_in_place;
 use log_writes::Writer;

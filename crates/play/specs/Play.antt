@@ -1,12 +1,10 @@
 -- A study, record by record, and what is printed of it.
-use Rattle.std.specs.Prelude.{◌≡◌, List, ℕ, zero, suc, take, Option, Some, Result, Ok, Err}
+use Rattle.std.specs.Prelude.{List, ℕ, zero, suc, take, Option, Some, Ok, Err}
 use Rattle.world.specs.declared.World.{World}
 use Rattle.std.specs.Result.{result_err}
 use Rattle.laws.specs.Numbers.{plus}
 use Rattle.world.specs.declared.refusal.Refusal.{Refusal}
 use Rattle.world.specs.declared.refusal.Refusal.TheVariants.{CutShort}
-use Rattle.log_writes.specs.Told.{Told as Prints}
-use Rattle.log_writes.specs.declared.Writer.{Writer}
 use Rattle.record.specs.Record.{Answer}
 use Rattle.report.specs.Report.{count_more, counted_report}
 use Rattle.report.specs.declared.Counts.{Counts}
@@ -31,19 +29,6 @@ counts_after (Err r) log c = c
 abbrev pub place_after : Answer → Place → Place
 place_after (Ok a) p = record { records = plus p.records 1; words = plus p.words a.used }
 place_after (Err r) p = p
-
--- the words that an accepted record used, or the refusal
-abbrev pub uses : Answer → Result ℕ Refusal
-uses (Ok a) = Ok a.used
-uses (Err r) = Err r
-
--- what the code tells of an answer and the log after it: the text is told to `out`, and `out'` is the writer then
-pub record Tells (a : Answer) (log : List ℕ) (c : Counts) (p : Place) (out : Writer ℕ) (words : Result ℕ Refusal)
-    (c' : Counts) (p' : Place) (out' : Writer ℕ) : Type 0 where
-  pub counts : c' ≡ counts_after a log c
-  pub place : p' ≡ place_after a p
-  pub used : words ≡ uses a
-  pub text : Prints out (told a log) out'
 
 -- ---- the end of a tape
 

@@ -12,7 +12,7 @@ use Rattle.tape_records.specs.declared.Read.{Read}
 use Rattle.tape_records.specs.declared.Found.{Found}
 use Rattle.tape_records.specs.declared.Found.TheVariants.{Tick}
 use Rattle.std.specs.Prelude.{Result, Ok, Err}
-use Rattle.record_kinds.specs.Kinds.{tick_taken}
+use Rattle.record_kinds.specs.Parts.{tick_taken}
 use Rattle.log_writes.specs.Log.{Wrote}
 use Rattle.tick.specs.Tick.{tick_world, tick_words}
 use Rattle.tick.specs.Room.{room_of, WordsFit}

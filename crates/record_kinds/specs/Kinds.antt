@@ -1,13 +1,12 @@
 -- What each record but the tick does, and what the state says of a tick.
-use Rattle.std.specs.Prelude.{Result, Ok, Err, Bool, not, List, [], ◌∷◌, ℕ, ◌^◌, leb, ltb}
-use Rattle.world.specs.Refusal.{Check, check, unless}
+use Rattle.std.specs.Prelude.{Bool, not, List, [], ◌∷◌, ℕ, ◌^◌, leb, ltb}
+use Rattle.world.specs.Refusal.{Check, check}
 use Rattle.world.specs.declared.World.{World}
 use Rattle.world.specs.declared.refusal.Refusal.TheVariants.{NotNow, LastTick, LogShort}
 use Rattle.tape_records.specs.declared.Record.{Record}
 use Rattle.tape_records.specs.declared.Record.TheVariants.{Line, Stop, Car, Rider, Send, Mode, ManualSpeed, DoorCommand, HallCall, Destination, Enable, Start}
 use Rattle.loads.specs.Loads.{load_line, load_stop, load_car, load_rider}
 use Rattle.changes.specs.Changes.{Changed, start}
-use Rattle.world.specs.declared.refusal.Refusal.{Refusal}
 use Rattle.orders.specs.Orders.{send}
 use Rattle.modes.specs.Modes.{set_mode, set_manual_speed, set_enabled}
 use Rattle.requests.specs.Requests.{queue_command, press_hall_call, push_destination}
@@ -38,7 +37,3 @@ tick_checks started ticks cars stops room =
     ∷ check LastTick (leb (2 ^ 28) ticks)
     ∷ check LogShort (ltb room (room_for cars stops))
     ∷ []
-
--- the first of them that holds, or the tick is taken
-unfoldable pub tick_taken : Bool → ℕ → ℕ → ℕ → ℕ → Result (Unit {0}) Refusal
-tick_taken started ticks cars stops room = unless (tick_checks started ticks cars stops room) Err (Ok tt)

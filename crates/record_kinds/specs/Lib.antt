@@ -1,2 +1,3 @@
 pub mod Kinds
 pub mod PaperRoom
+pub mod Parts

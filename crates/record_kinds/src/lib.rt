@@ -2,7 +2,8 @@
 #![tactic(auto)]
 
 ghost use Rattle.std.specs.Prelude.{◌≡◌, true};
-ghost use Rattle.record_kinds.specs.Kinds.{change_by, tick_taken};
+ghost use Rattle.record_kinds.specs.Kinds.{change_by};
+ghost use Rattle.record_kinds.specs.Parts.{tick_taken};
 ghost use Rattle.record_kinds.specs.PaperRoom.{PaperRoom};
 
 use changes::Changed;
@@ -35,7 +36,7 @@ pub fn change(world: World, read: Record) -> Changed
 }
 
 // Kind C, with a log of `room` words: 6, 11 and 12, or the tick is taken.
-#[tactic(auto, using(crate::proofs::Proved::small), unfolding(crate::specs::Kinds::tick_taken))]
+#[tactic(auto, using(crate::proofs::Proved::small), unfolding(crate::specs::Parts::tick_taken))]
 pub fn take_tick(world: &World, room: usize) -> Result<(), Refusal>
     ensures { result ≡ tick_taken world.now.started world.now.ticks world.now.cars.count world.now.stops.count room }
 {

@@ -12,7 +12,8 @@ use lib.Seq.{append_snoc, get_or-append_seam, set-append_seam}
 use lib.Ieee.{Float}
 use borrow.Author.Tests.{eqb-true, eqb-false, ne_eqb}
 use Rattle.laws.proofs.Bools.{yes}
-use Rattle.sorted.specs.Sorted.{stop_before, inserted, sorted_stops, sorted_table, times, StopsSorted}
+use Rattle.sorted.specs.Sorted.{stop_before, inserted, sorted_stops, times, StopsSorted}
+use Rattle.sorted.specs.Parts.{sorted_table}
 use Rattle.sorted.proofs.Order.{before_through, before_either, stops_order}
 
 -- ---- what holds of each element of a list

@@ -1,5 +1,5 @@
 -- The sort of stops: "by position (0 and -0 alike, one that is not a number last), then number".
-use Rattle.std.specs.Prelude.{◌≡◌, Bool, true, false, not, ◌&&◌, ◌||◌, cond, List, [], ◌∷◌, ◌++◌, ℕ, zero, suc, ◌-◌, ◌<◌, ◌≤◌, ltb, eqb, length, get_or, replicate, Float}
+use Rattle.std.specs.Prelude.{◌≡◌, Bool, true, false, not, ◌&&◌, ◌||◌, cond, List, [], ◌∷◌, ℕ, zero, suc, ◌<◌, ◌≤◌, ltb, eqb, length, get_or, Float}
 use Rattle.std.specs.Float.Ieee.{lt, is_nan}
 use Rattle.world.specs.World.{stop_at}
 
@@ -23,10 +23,6 @@ inserted stops i (j ∷ js) = cond (stop_before stops i j) (i ∷ j ∷ js) (j �
 unfoldable pub sorted_stops : List Float → ℕ → List ℕ
 sorted_stops stops zero = []
 sorted_stops stops (suc n) = inserted stops n (sorted_stops stops n)
-
--- the same as a table of 64, with zeros past the end
-abbrev pub sorted_table : List Float → ℕ → List ℕ
-sorted_table stops n = sorted_stops stops n ++ replicate (64 - n) 0
 
 -- ---- claims about the definition: it is sorted, and has each number once
 

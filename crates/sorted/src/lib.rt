@@ -2,7 +2,8 @@
 #![tactic(auto)]
 
 ghost use Rattle.std.specs.Prelude.{◌≡◌, true, not, ◌+◌, ◌<◌, min};
-ghost use Rattle.sorted.specs.Sorted.{stop_before, sorted_table, StopsSorted};
+ghost use Rattle.sorted.specs.Sorted.{stop_before, StopsSorted};
+ghost use Rattle.sorted.specs.Parts.{sorted_table};
 
 use float::before;
 use lookup::stops::stop_position;

@@ -7,7 +7,7 @@ use Rattle.std.specs.List.{fold, list_any}
 use Rattle.std.proofs.lemmas.Bool.{cases_eq}
 use Rattle.laws.proofs.Bools.{or_left, or_right}
 use Rattle.laws.proofs.Folding.{fold_to, list_any_to}
-use Rattle.world.specs.Tables.{listed}
+use Rattle.world.specs.Parts.{listed}
 use Rattle.world.specs.declared.Table.{Table}
 use Rattle.sound_rows.specs.Rows.{any_to}
 

@@ -5,7 +5,8 @@ use Rattle.study_numbers.specs.NumberText.{text, newline}
 use Rattle.world.specs.declared.refusal.Refusal.{Refusal}
 use Rattle.study_text.specs.Text.{place_line}
 use Rattle.study_text.specs.declared.Place.{Place}
-use Rattle.pieces.specs.Pieces.{advanced, playing, study_of, fresh}
+use Rattle.pieces.specs.Pieces.{playing, study_of, fresh}
+use Rattle.pieces.specs.Parts.{advanced}
 use Rattle.pieces.specs.declared.Study.{Study}
 use Rattle.study_step.specs.declared.End.{End}
 use Rattle.study_step.specs.declared.End.TheVariants.{GoesOn, Answered, CannotRead}

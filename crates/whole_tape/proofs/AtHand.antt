@@ -2,7 +2,8 @@
 -- it keeps. Assumes nothing.
 use Rattle.std.proofs.Common.{◌≡◌, Bool, true, false, cond, ℕ, zero, suc, ◌+◌, length, refl}
 use Rattle.study_text.specs.Text.{words_of}
-use Rattle.pieces.specs.Pieces.{Playing, goes, next_record, play_to, ends, closed, close, advanced}
+use Rattle.pieces.specs.Pieces.{Playing}
+use Rattle.pieces.specs.Parts.{goes, next_record, play_to, ends, closed, close, advanced}
 
 module _ (Q : Playing → Type 0) (ended : Bool) where
   after_records : ((p : Playing) → goes ended p.over (length (words_of p.bytes)) (length p.text) ≡ true → Q p → Q (next_record p))

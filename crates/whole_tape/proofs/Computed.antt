@@ -44,7 +44,7 @@ use Rattle.play.specs.Play.{ending, ending_refusal}
 use Rattle.record.specs.Calls.{outcome, next}
 use Rattle.whole_tape.specs.Study.{made, said, study_text}
 use Rattle.whole_tape.specs.Certified.{AllAccepted}
-use Rattle.pieces.specs.Pieces.{next_record, play_to, close, advanced}
+use Rattle.pieces.specs.Parts.{next_record, play_to, close, advanced}
 use Rattle.study_step.specs.Step.{stepped}
 use Rattle.whole_tape.specs.Place.{refusal_of, accepted_calls, words_used, error_text}
 use Rattle.whole_tape.specs.WholeTape.{after_rounds, output_of, error_of, tape_of, InOrder, AsWanted}

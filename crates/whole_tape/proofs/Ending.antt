@@ -11,7 +11,8 @@ use lib.ListN.{length, drop, length-drop}
 use borrow.Author.Tests.{ltb-false, le-leb}
 use Rattle.record.specs.Record.{record_of, is_accepted, used_of}
 use Rattle.study_text.specs.Text.{words_of}
-use Rattle.pieces.specs.Pieces.{Playing, next_record, ready, goes, play_to, ends, closed, close, advanced}
+use Rattle.pieces.specs.Pieces.{Playing}
+use Rattle.pieces.specs.Parts.{next_record, ready, goes, play_to, ends, closed, close, advanced}
 use Rattle.pieces.proofs.Sizes.{words_few}
 use Rattle.pieces.proofs.Going.{play_stops, words_of_count}
 use Rattle.study_step.specs.Step.{reads}

@@ -19,13 +19,18 @@ use Rattle.conditions.proofs.Answering.{first_condition}
 use Rattle.report.specs.declared.Counts.{Counts}
 use Rattle.study_text.specs.Text.{word, words_of}
 use Rattle.play.specs.Play.{told, counts_after}
-use Rattle.pieces.specs.Pieces.{Playing, next_record, ready, goes, play_to, ends, closed, close, advanced}
+use Rattle.pieces.specs.Pieces.{Playing}
+use Rattle.pieces.specs.Parts.{next_record, ready, goes, play_to, ends, closed, close, advanced}
 use Rattle.whole_tape.proofs.AtHand.{by_records}
 use Rattle.pieces.proofs.Sizes.{words_drop, words_few}
 use Rattle.laws.proofs.Bools.{and_left, and_right}
-use Rattle.whole_tape.specs.Study.{Made, made_first, unless_refused, made, goes_on, said, printed}
+use Rattle.whole_tape.specs.Study.{Made, made_first, unless_refused, made, goes_on, said}
 use Rattle.whole_tape.specs.WholeTape.{Longest}
 use Rattle.whole_tape.proofs.Ignoring.{longest}
+
+-- what is printed of a tape's bytes from a world on; `more` bounds the calls, as in `made`
+unfoldable pub printed : ℕ → World → Counts → List ℕ → List ℕ → List ℕ
+printed more w c log bytes = said w c (made more w log bytes).calls (made more w log bytes).left
 
 -- what a study still prints, where these bytes are yet to come
 unfoldable pub still_prints : Playing → List ℕ → List ℕ

@@ -12,14 +12,14 @@ use lib.ListN.{length, length-append}
 use Rattle.laws.proofs.Bools.{no, and_left}
 use Rattle.laws.proofs.Counting.{bit_small}
 use Rattle.laws.specs.Numbers.{bit}
-use Rattle.pieces.specs.Pieces.{Playing, playing, advanced}
+use Rattle.pieces.specs.Pieces.{Playing, playing}
+use Rattle.pieces.specs.Parts.{advanced}
 use Rattle.pieces.specs.declared.Study.{Study}
 use Rattle.study_step.specs.Step.{Reading, Read, Failed, Unasked, Running, reads, played, stepped}
 use Rattle.whole_tape.specs.Place.{error_text}
 use Rattle.whole_tape.specs.Study.{made_of, study_text}
-use Rattle.whole_tape.specs.Study as Study
 use Rattle.whole_tape.specs.WholeTape.{begun, after_rounds, output_of, error_of, bytes_of, tape_of, InOrder, NoneFailed, is_read, AsWanted, Beginning, Over, Ends, InPieces}
-use Rattle.whole_tape.proofs.Joining.{still_prints, advanced_prints}
+use Rattle.whole_tape.proofs.Joining.{printed, still_prints, advanced_prints}
 use Rattle.whole_tape.proofs.Telling.{said, still_says, advanced_says, advanced_quiet, handed_on, begins_says}
 use Rattle.whole_tape.proofs.Ending.{advanced_few, advanced_over, unasked}
 
@@ -140,7 +140,7 @@ unsettled : {tape : List ℕ} → Settled begun tape
 unsettled e = absurd (no e)
 
 begun_prints : (tape : List ℕ) → still_prints (resting begun) tape ≡ study_text tape
-unfolding still_prints study_text Study.printed
+unfolding still_prints study_text printed
 begun_prints tape = refl
 
 beginning : Beginning

@@ -22,7 +22,8 @@ use Rattle.report.specs.declared.Counts.{Counts}
 use Rattle.study_text.specs.Text.{words_of}
 use Rattle.study_text.specs.declared.Place.{Place}
 use Rattle.play.specs.Play.{counts_after, place_after, ending_refusal}
-use Rattle.pieces.specs.Pieces.{Playing, next_record, ready, goes, play_to, ends, closed, close, advanced, playing, study_of, no_place}
+use Rattle.pieces.specs.Pieces.{Playing, playing, study_of, no_place}
+use Rattle.pieces.specs.Parts.{next_record, ready, goes, play_to, ends, closed, close, advanced}
 use Rattle.whole_tape.proofs.AtHand.{by_records}
 use Rattle.pieces.proofs.Sizes.{words_few}
 use Rattle.study_step.specs.Step.{told_of}

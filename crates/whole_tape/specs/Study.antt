@@ -50,9 +50,5 @@ said w c (call ∷ calls) left =
     let o = outcome w call in
     told o.answer o.log ++ goes_on o.answer (said o.world (counts_after o.answer o.log c) calls left)
 
--- what is printed of a tape's bytes from a world on; `more` bounds the calls, as in `made`
-unfoldable pub printed : ℕ → World → Counts → List ℕ → List ℕ → List ℕ
-printed more w c log bytes = said w c (made more w log bytes).calls (made more w log bytes).left
-
 unfoldable pub study_text : List ℕ → List ℕ
 study_text tape = said empty_world no_counts (made_of tape).calls (made_of tape).left

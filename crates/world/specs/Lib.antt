@@ -3,3 +3,4 @@ pub mod World
 pub mod With
 pub mod Refusal
 pub mod Modes
+pub mod Parts

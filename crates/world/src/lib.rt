@@ -3,8 +3,8 @@
 #![tactic(auto)]
 
 ghost use Rattle.std.specs.Prelude.{◌≡◌, length, min};
-ghost use Rattle.world.specs.Tables.{of_none, listed, pushed};
-ghost use Rattle.world.specs.Modes as Modes;
+ghost use Rattle.world.specs.Tables.{of_none};
+ghost use Rattle.world.specs.Parts.{ModeOf, listed, pushed};
 
 pub mod empty; // a new car, the empty world
 pub mod refusal; // the refusals and their numbers
@@ -143,7 +143,7 @@ pub enum ServiceMode {
 impl TryFrom<u32> for ServiceMode {
     type Error = Refusal;
 
-    ghost try_from_gives = { Modes.ModeOf };
+    ghost try_from_gives = { ModeOf };
 
     fn try_from(code: u32) -> Result<Self, Refusal> {
         match code {

@@ -1,6 +1,7 @@
 -- So many records are played, by words that the tape has, and the log keeps its length.
 use Rattle.std.proofs.Common.{◌≡◌, ◌≤◌, length}
-use Rattle.beside_ticks.specs.Bench.{played_to, Reached}
+use Rattle.beside_ticks.specs.Bench.{played_to}
+use Rattle.beside_ticks.specs.Parts.{Reached}
 use Rattle.beside_ticks.proofs.by_lending.Given as goal
 
 abbrev pub invariant-loop : goal.invariant-loop

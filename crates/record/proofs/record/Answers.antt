@@ -1,7 +1,7 @@
 -- `record::record` meets its contract: the refusals, what was read, and a tick by the two loops. Assumes nothing.
 use Rattle.std.proofs.Common.{◌≡◌, ℕ, ◌+◌, ◌≤◌, min, false, List, sym, refl, ap, ◌∙◌, inl, inr, arith, rules}
 use Rattle.log_writes.proofs.Telling.{told_none, told_also}
-use Rattle.log_writes.specs.Told.{Log}
+use Rattle.log_writes.specs.Parts.{Log}
 use Rattle.sound.specs.Sound.{broken}
 use Rattle.world.specs.World.{car_at}
 use Rattle.world.specs.declared.World.{World}

@@ -1,7 +1,7 @@
 -- The loop keeps: going on from place k, which is free, gives the sort of the first i + 1. It ends as k falls.
 use mathlib.Core.Path.{◌≡◌}
 use Prim.Native.Nat.{◌+◌, ◌≤◌}
-use Rattle.sorted.specs.Sorted.{sorted_table}
+use Rattle.sorted.specs.Parts.{sorted_table}
 use Rattle.sorted.proofs.Insertion.{from_back}
 use Rattle.sorted.proofs.insert.Given as goal
 

@@ -1,6 +1,6 @@
 -- The loop keeps: the table begins with the first i numbers in the order of their stops, and has zeros behind them.
 use mathlib.Core.Path.{◌≡◌}
-use Rattle.sorted.specs.Sorted.{sorted_table}
+use Rattle.sorted.specs.Parts.{sorted_table}
 use Rattle.sorted.proofs.sorted_stops.Given as goal
 
 abbrev pub invariant-loop-i : goal.invariant-loop-i

@@ -5,7 +5,8 @@ use Rattle.log_writes.proofs.Writing.{also, wrote_count, wrote_taken}
 use Rattle.study_text.proofs.Keeping.{take_min}
 use Rattle.study_step.proofs.AtHand.{leaves}
 use Rattle.study_step.proofs.Told.{told_length}
-use Rattle.pieces.specs.Pieces.{advanced, playing}
+use Rattle.pieces.specs.Pieces.{playing}
+use Rattle.pieces.specs.Parts.{advanced}
 use Rattle.pieces.specs.declared.Study.{Study}
 use Rattle.study_step.specs.Step.{end_by}
 use Rattle.study_step.proofs.play.Goals as goal

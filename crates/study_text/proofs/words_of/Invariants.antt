@@ -1,7 +1,7 @@
 -- The words of the chunks so far are put.
 use Rattle.std.proofs.Common.{take, map, w32}
 use Rattle.std.specs.Int.{from_le_bytes}
-use Rattle.log_writes.specs.Told.{Told}
+use Rattle.log_writes.specs.Parts.{Told}
 use Rattle.study_text.proofs.words_of.Given as goal
 
 abbrev pub invariant-loop-four : goal.invariant-loop-four

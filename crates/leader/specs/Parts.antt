@@ -1,4 +1,5 @@
--- When the search of the leader takes a car: none is found so far, or this one is nearer.
+-- Parts of the code, cited within the library alone, on which the promise of `record` does not rest: when the search
+-- of the leader takes a car: none is found so far, or this one is nearer.
 use Rattle.std.specs.Prelude.{cond, Float}
 use Rattle.float.specs.Float.{total_before}
 use Rattle.std.specs.declared.option.Option.{Option}
