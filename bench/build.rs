@@ -1,4 +1,4 @@
-//! Links libbeside_ticks.a, which tests/beside_rust/prepare laid out.
+//! Links libtest_beside_ticks.a, which tests/beside_rust/prepare laid out.
 
 use std::env;
 use std::path::Path;
@@ -8,9 +8,9 @@ fn main() {
         let folder =
             Path::new(&env::var("CARGO_MANIFEST_DIR").unwrap()).join("../target/staticlib");
         println!("cargo:rustc-link-search=native={}", folder.display());
-        println!("cargo:rustc-link-lib=static=beside_ticks");
+        println!("cargo:rustc-link-lib=static=test_beside_ticks");
         println!(
-            "cargo:rerun-if-changed={}/libbeside_ticks.a",
+            "cargo:rerun-if-changed={}/libtest_beside_ticks.a",
             folder.display()
         );
     }

@@ -99,7 +99,7 @@ fn timed<R>(best: &mut f64, run: impl FnOnce() -> R) -> R {
     result
 }
 
-/// The tape by the Rust, one call of each system a tick; answers what crate beside_ticks does.
+/// The tape by the Rust, one call of each system a tick; answers what crate test_beside_ticks does.
 #[inline(never)]
 fn two_runs(tape: &Tape, world: World) -> u64 {
     let mut study = Study::new();

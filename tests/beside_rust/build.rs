@@ -8,7 +8,7 @@ fn main() {
     println!("cargo:rustc-link-search=native={}", folder.display());
     let mut libraries = vec!["motion"];
     if env::var("CARGO_FEATURE_BESIDE").is_ok() {
-        libraries.push("beside");
+        libraries.push("test_beside");
     }
     for name in libraries {
         println!("cargo:rustc-link-lib=static={name}");

@@ -10,7 +10,7 @@ use lib.Dec.{leb, eqb, eqb-suc-suc}
 use borrow.Author.Tests.{le-leb, lt-leb, eq-eqb, ne_eqb, eqb-true, eqb-false}
 use Rattle.door.specs.Door.{ticked, tick}
 use Rattle.door.specs.Phases.{after, transition_at, closes_at, closed_at, PhasesEnd}
-use Rattle.door.specs.Door.{Ticked}
+use Rattle.door.specs.Door.{DoorTick}
 use Rattle.door.specs.declared.DoorState.{DoorState}
 use Rattle.door.specs.declared.DoorState.TheVariants.{Closed, Opening, Open, Closing}
 use Rattle.door.specs.declared.DoorTransition.{DoorTransition}
@@ -20,7 +20,7 @@ use Rattle.door.specs.declared.DoorTransition.TheVariants.{None, FinishedOpening
 module _ (S : ℕ → DoorState) (e : DoorState) (x : DoorTransition)
     (steps : (t : ℕ) → tick (S t) ≡ cond (leb t 1) (ticked e x) (ticked (S (t - 1)) None)) where
   -- a tick of it by its two cases
-  by_tick : (P : Ticked → Type 0) (t : ℕ) → (t ≤ 1 → P (ticked e x)) → (1 < t → P (ticked (S (t - 1)) None)) → P (tick (S t))
+  by_tick : (P : DoorTick → Type 0) (t : ℕ) → (t ≤ 1 → P (ticked e x)) → (1 < t → P (ticked (S (t - 1)) None)) → P (tick (S t))
   by_tick P t ends stays =
       rw (steps t)
       (⊎_elim

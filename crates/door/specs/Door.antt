@@ -26,16 +26,17 @@ abbrev pub request_open : ℕ → ℕ → DoorState
 request_open transition-ticks open-ticks = Opening transition-ticks open-ticks transition-ticks
 
 -- a door after a tick, and the transition of that tick
-pub record Ticked : Type 0 where
+pub record DoorTick : Type 0 where
   pub door : DoorState
   pub transition : DoorTransition
 
-abbrev pub ticked : DoorState → DoorTransition → Ticked
+abbrev pub ticked : DoorState → DoorTransition → DoorTick
 ticked d t = record { door = d; transition = t }
 
 -- door.rs, DoorState::tick
-abbrev pub tick : DoorState → Ticked
+abbrev pub tick : DoorState → DoorTick
 tick Closed = ticked Closed None
-tick (Opening ticks od cd) = cond (leb ticks 1) (ticked (Open od cd) FinishedOpening) (ticked (Opening (ticks - 1) od cd) None)
+tick (Opening ticks od cd) =
+    cond (leb ticks 1) (ticked (Open od cd) FinishedOpening) (ticked (Opening (ticks - 1) od cd) None)
 tick (Open ticks cd) = cond (leb ticks 1) (ticked (Closing cd) FinishedOpen) (ticked (Open (ticks - 1) cd) None)
 tick (Closing ticks) = cond (leb ticks 1) (ticked Closed FinishedClosing) (ticked (Closing (ticks - 1)) None)

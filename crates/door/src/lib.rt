@@ -70,7 +70,8 @@ impl DoorState {
     }
 
     // One tick fewer remains of its phase.
-    // Stays: three arms; one pattern of the three was tried, and what its `&mut` leaves in the door is not known where they join.
+    // Stays: three arms; one pattern of the three was tried, and what its `&mut` leaves in the door is not known
+    // where they join.
     fn count_down(&mut self)
         ensures { self.new ≡ one_less self.old }
     {

@@ -49,7 +49,9 @@ zero_exponent s (pos zero) h = refl
 zero_exponent s (pos (suc k)) h = absurd (omega (arith, eqb-true (2 ^ suc k * 1) 1 h, mul-one (2 ^ suc k), pow-suc 2 k, pow_pos k))
 zero_exponent s (negsuc k) h = absurd (omega (arith, eqb-true (1 * 2 ^ suc k) 1 h, one-mul (2 ^ suc k), pow-suc 2 k, pow_pos k))
 
-pub finite_between : (x : Float) → (lt (of_bits binary64 0xfff0_0000_0000_0000) x && lt x (of_bits binary64 0x7ff0_0000_0000_0000)) ≡ F64.is_finite x
+pub finite_between : (x : Float)
+    → (lt (of_bits binary64 0xfff0_0000_0000_0000) x && lt x (of_bits binary64 0x7ff0_0000_0000_0000))
+    ≡ F64.is_finite x
 unfolding lt of_bits F64.is_finite
 finite_between nan = refl
 finite_between (inf true) = refl

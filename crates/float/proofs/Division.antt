@@ -17,7 +17,7 @@ use Rattle.float.specs.Float as F64
 use Rattle.float.specs.Facts.{IsF64}
 use Rattle.float.proofs.Cases.{lt_zero_pos, lt_zero_neg}
 use Rattle.float.proofs.Rounding.{neg_round, round_self}
-use Rattle.float.proofs.Units.{held, Few, Worth, Count, count_of, held_count, held_top, lt_is, add_is, sub_is, rem_is, scaled}
+use Rattle.float.proofs.Units.{held, Within53Bits, Worth, Count, count_of, held_count, held_top, lt_is, add_is, sub_is, rem_is, scaled}
 use Rattle.laws.proofs.Bools.{no, yes}
 
 -- ---- sizes whose few digits are kept
@@ -26,7 +26,7 @@ use Rattle.laws.proofs.Bools.{no, yes}
 shifted : (p i j : ℕ) → j ≤ i → p * 2 ^ i ≡ p * 2 ^ (i - j) * 2 ^ j
 shifted p i j l = ap (λ (x : ℕ). p * 2 ^ x) (sym (back i j l)) ∙ ap (λ (x : ℕ). p * x) (pow-add 2 (i - j) j) ∙ sym (mul_assoc p (2 ^ (i - j)) (2 ^ j))
 
-few_twice : (n : ℕ) → Few n → Few (n + n)
+few_twice : (n : ℕ) → Within53Bits n → Within53Bits (n + n)
 few_twice n w = (w.0, suc w.1, w.2, ap (λ (x : ℕ). x + x) w.3 ∙ two (w.0) (2 ^ w.1) ∙ ap (λ (x : ℕ). w.0 * x) (sym (pow-suc 2 w.1)))
   where
     two : (q x : ℕ) → q * x + q * x ≡ q * (x * 2)
@@ -37,15 +37,15 @@ factor zero b h = absurd (omega (arith, zero-mul b, h))
 factor (suc a) b h = omega arith
 
 -- two sizes with k zeros
-cut : (n m a b k : ℕ) → 0 < m → n ≡ a * 2 ^ k → m ≡ b * 2 ^ k → (0 < b → a % b < 2 ^ 53) → Few (n % m)
+cut : (n m a b k : ℕ) → 0 < m → n ≡ a * 2 ^ k → m ≡ b * 2 ^ k → (0 < b → a % b < 2 ^ 53) → Within53Bits (n % m)
 cut n m a b k M e f l =
     let B : 0 < b = factor b (2 ^ k) (lt_of_lt_of_le M (le_of_eq f)) in
     (a % b, k, l B, ap (λ (x : ℕ). x % m) e ∙ ap (λ (x : ℕ). a * 2 ^ k % x) f ∙ scaled a b (2 ^ k) B (pow_pos k))
 
-few_rem : (n m : ℕ) → 0 < m → Few n → Few m → Few (n % m)
+few_rem : (n m : ℕ) → 0 < m → Within53Bits n → Within53Bits m → Within53Bits (n % m)
 few_rem n m M v w = go v.0 v.1 w.0 w.1 v.2 w.2 v.3 w.3 (leb w.1 v.1) refl
   where
-    go : (p i q j : ℕ) → p < 2 ^ 53 → q < 2 ^ 53 → n ≡ p * 2 ^ i → m ≡ q * 2 ^ j → (t : Bool) → leb j i ≡ t → Few (n % m)
+    go : (p i q j : ℕ) → p < 2 ^ 53 → q < 2 ^ 53 → n ≡ p * 2 ^ i → m ≡ q * 2 ^ j → (t : Bool) → leb j i ≡ t → Within53Bits (n % m)
     go p i q j P Q e f true o = cut n m (p * 2 ^ (i - j)) q j M (e ∙ shifted p i j (leb-true j i o)) f (λ B. lt_trans (mod-lt (p * 2 ^ (i - j)) B) Q)
     go p i q j P Q e f false o =
         let l : i ≤ j = omega (arith, leb-false j i o) in
@@ -207,7 +207,8 @@ module _ (a b : Float) (t : IsF64 a) (u : IsF64 b) (k : F64.abs a ≡ a) (f : F6
       let under : w.0 < h = ltb-true w.0 h (sym (lt_is r b w.0 h w.1.value z.by.value) ∙ i) in
       w.4 under ∙ ap held (sym (mod-eq_of_lt under) ∙ w.3) ∙ sym by_one
 
-  pub take : lt (rem binary64 a (add binary64 b b)) b ≡ false → sub binary64 (rem binary64 a (add binary64 b b)) b ≡ rem binary64 a b
+  pub take : lt (rem binary64 a (add binary64 b b)) b ≡ false
+      → sub binary64 (rem binary64 a (add binary64 b b)) b ≡ rem binary64 a b
   take i =
       let w = by_two in
       let r = rem binary64 a (add binary64 b b) in
@@ -271,7 +272,8 @@ minus (fin true m e) (fin u n d) l = go (eqb n 0) (m * up e * down d % (n * up d
     go true r k = refl
     go false r k = neg_round r k
 
-pub plus : (x y : Float) → lt (F64.abs x) (F64.abs y) ≡ false → lt F64.zero (F64.abs y) ≡ true → lt x F64.zero ≡ false → rem binary64 (F64.abs x) (F64.abs y) ≡ rem binary64 x y
+pub plus : (x y : Float) → lt (F64.abs x) (F64.abs y) ≡ false → lt F64.zero (F64.abs y) ≡ true → lt x F64.zero ≡ false
+    → rem binary64 (F64.abs x) (F64.abs y) ≡ rem binary64 x y
 unfolding lt of_bits F64.abs rem
 plus nan y i p l = refl
 plus (inf s) nan i p l = refl

@@ -36,7 +36,8 @@ parts true false c d t = absurd t
 parts false b c d t = absurd t
 
 -- what `fits` says of a finite float that is not 0
-pub fitting : (s : Bool) (n : ℕ) (d : ℤ) → T (fits binary64 (fin s (suc n) d)) → T (ltb (suc n) (2 ^ 53)) × T (leb (down d) (2 ^ 1074)) × T (ltb (suc n * up d) (2 ^ 1024 * down d))
+pub fitting : (s : Bool) (n : ℕ) (d : ℤ) → T (fits binary64 (fin s (suc n) d))
+    → T (ltb (suc n) (2 ^ 53)) × T (leb (down d) (2 ^ 1074)) × T (ltb (suc n * up d) (2 ^ 1024 * down d))
 unfolding fits
 fitting s n d t = parts (eqb (suc n % 2) 1) (ltb (suc n) (2 ^ 53)) (leb (down d) (2 ^ 1074)) (ltb (suc n * up d) (2 ^ 1024 * down d)) t
 
@@ -47,7 +48,8 @@ fits_sign s t zero e = refl
 fits_sign s t (suc m) e = refl
 
 -- a float of the format keeps its value when it is rounded
-pub own : (s : Bool) (n : ℕ) (d : ℤ) → T (fits binary64 (fin s (suc n) d)) → HasValue (round binary64 s (suc n * up d) (down d)) s (suc n * up d) (down d)
+pub own : (s : Bool) (n : ℕ) (d : ℤ) → T (fits binary64 (fin s (suc n) d))
+    → HasValue (round binary64 s (suc n * up d) (down d)) s (suc n * up d) (down d)
 own s n (pos k) t =
     let small : suc n < 2 ^ 53 = ltb→lt (suc n) (2 ^ 53) (fitting s n (pos k) t).0 in
     let under : suc n * 2 ^ k < 2 ^ 1024 = lt_of_lt_of_le (ltb→lt (suc n * 2 ^ k) (2 ^ 1024 * 1) (fitting s n (pos k) t).2) (le_of_eq (mul-one (2 ^ 1024))) in
@@ -76,7 +78,8 @@ unfolding to_bits patterned grains
 bits_of s m e = refl
 
 -- two floats of the format with one sign and one size are one
-pub unique : (s : Bool) (m : ℕ) (e : ℤ) (n : ℕ) (d : ℤ) → T (fits binary64 (fin s m e)) → T (fits binary64 (fin s n d)) → m * up e * down d ≡ n * up d * down e → fin s m e ≡ fin s n d
+pub unique : (s : Bool) (m : ℕ) (e : ℤ) (n : ℕ) (d : ℤ) → T (fits binary64 (fin s m e)) → T (fits binary64 (fin s n d))
+    → m * up e * down d ≡ n * up d * down e → fin s m e ≡ fin s n d
 unfolding grains
 unique s m e n d t u h =
     sym (of_bits-to_bits binary64 (fin s m e) t) ∙ ap (of_bits binary64) (bits_of s m e ∙ ap (patterned s) same ∙ sym (bits_of s n d)) ∙ of_bits-to_bits binary64 (fin s n d) u
@@ -87,7 +90,8 @@ unique s m e n d t u h =
         (mul_right_comm (m * up e) (2 ^ 1074) (down d) ∙ ap (λ (x : ℕ). x * 2 ^ 1074) h ∙ mul_right_comm (n * up d) (down e) (2 ^ 1074))
 
 -- so rounding gives a float of the format back
-pub round_own : (s : Bool) (m : ℕ) (e : ℤ) → T (fits binary64 (fin s (suc m) e)) → round binary64 s (suc m * up e) (down e) ≡ fin s (suc m) e
+pub round_own : (s : Bool) (m : ℕ) (e : ℤ) → T (fits binary64 (fin s (suc m) e))
+    → round binary64 s (suc m * up e) (down e) ≡ fin s (suc m) e
 round_own s m e t = go (round binary64 s (suc m * up e) (down e)) (round-fits binary64 s (suc m * up e) (down e)) (own s m e t)
   where
     go : (x : Float) → T (fits binary64 x) → HasValue x s (suc m * up e) (down e) → x ≡ fin s (suc m) e
@@ -98,7 +102,8 @@ round_own s m e t = go (round binary64 s (suc m * up e) (down e)) (round-fits bi
         sign ∙ unique s n d (suc m) e (subst (λ (x : Float). T (fits binary64 x)) sign u) t v.1
 
 -- a zero too
-pub round_self : (s : Bool) (m : ℕ) (e : ℤ) → fits binary64 (fin s m e) ≡ true → round binary64 s (m * up e) (down e) ≡ fin s m e
+pub round_self : (s : Bool) (m : ℕ) (e : ℤ) → fits binary64 (fin s m e) ≡ true
+    → round binary64 s (m * up e) (down e) ≡ fin s m e
 unfolding round
 round_self s zero e t = rw (zero_exponent s e t)
 round_self s (suc m) e t = round_own s m e (holds t)
@@ -165,7 +170,8 @@ le_nat a b = go (ltb a b) (eqb a b) (ltb→lt a b) (eqb→eq a b)
     go false true f g t = omega (arith, g tt)
     go false false f g t = absurd t
 
-pub within_of_le : (x y : Float) (n : ℕ) (d : ℤ) → Plus x → HasValue y false (n * up d) (down d) → T (le x y) → Within x n d
+pub within_of_le : (x y : Float) (n : ℕ) (d : ℤ) → Plus x → HasValue y false (n * up d) (down d) → T (le x y)
+    → Within x n d
 unfolding le
 within_of_le nan y n d p v t = absurd p
 within_of_le (inf true) y n d p v t = yes p
@@ -218,7 +224,8 @@ abs_taken x t h = go x (sym (ap (λ (y : Float). lt y x) (zero_minus x t)) ∙ h
     go (fin true (suc m) e) h = no h
     go (fin false m e) h = refl
 
-pub abs_left : (x : Float) → fits binary64 x ≡ true → lt (sub binary64 F64.zero x) x ≡ false → sub binary64 F64.zero x ≡ F64.abs x
+pub abs_left : (x : Float) → fits binary64 x ≡ true → lt (sub binary64 F64.zero x) x ≡ false
+    → sub binary64 F64.zero x ≡ F64.abs x
 unfolding opposite lt F64.abs
 abs_left x t h = zero_minus x t ∙ go x t (sym (ap (λ (y : Float). lt y x) (zero_minus x t)) ∙ h)
   where

@@ -25,8 +25,8 @@ either : (q l : Bool) → l ≡ true → cond q true (l || false) ≡ true
 either true l h = refl
 either false l h = or-false l ∙ h
 
-before_fin : (s : Bool) (m : ℕ) (e : ℤ) (t : Bool) (n : ℕ) (d : ℤ) → F64.total_before (fin s m e) (fin t n d) ≡ earlier s (m * up e * down d) t (n * up d * down e)
-unfolding F64.total_before F64.is_sign_negative lt eq is_nan
+before_fin : (s : Bool) (m : ℕ) (e : ℤ) (t : Bool) (n : ℕ) (d : ℤ) → F64.is_total_before (fin s m e) (fin t n d) ≡ earlier s (m * up e * down d) t (n * up d * down e)
+unfolding F64.is_total_before F64.is_sign_negative lt eq is_nan
 before_fin s m e t n d = go s t (m * up e * down d) (n * up d * down e)
   where
     go : (s t : Bool) (a b : ℕ) → cond (level s a t b) (s && not t) (below s a t b || false) ≡ earlier s a t b
@@ -70,8 +70,8 @@ fin_trans true m e false n d true l g p q = no q
 fin_trans false m e true n d u l g p q = no p
 fin_trans false m e false n d true l g p q = no q
 
-before_trans : (x y z : Float) → F64.total_before x y ≡ true → F64.total_before y z ≡ true → F64.total_before x z ≡ true
-unfolding F64.total_before F64.is_sign_negative lt eq is_nan
+before_trans : (x y z : Float) → F64.is_total_before x y ≡ true → F64.is_total_before y z ≡ true → F64.is_total_before x z ≡ true
+unfolding F64.is_total_before F64.is_sign_negative lt eq is_nan
 before_trans nan y z p q = no p
 before_trans (inf false) nan z p q = no q
 before_trans (inf false) (inf true) z p q = no p
@@ -99,8 +99,8 @@ before_trans (fin s m e) (fin t n d) (inf false) p q = refl
 before_trans (fin s m e) (fin t n d) (fin u l g) p q =
     before_fin s m e u l g ∙ fin_trans s m e t n d u l g (sym (before_fin s m e t n d) ∙ p) (sym (before_fin t n d u l g) ∙ q)
 
-before_itself : (x : Float) → F64.total_before x x ≡ false
-unfolding F64.total_before F64.is_sign_negative lt eq is_nan
+before_itself : (x : Float) → F64.is_total_before x x ≡ false
+unfolding F64.is_total_before F64.is_sign_negative lt eq is_nan
 before_itself nan = refl
 before_itself (inf true) = refl
 before_itself (inf false) = refl
@@ -117,8 +117,8 @@ fin_same true m e true n d f g p q = unique true m e n d (holds f) (holds g) (le
 fin_same true m e false n d f g p q = yes p
 fin_same false m e true n d f g p q = yes q
 
-before_same : (x y : Float) → IsF64 x → IsF64 y → F64.total_before x y ≡ false → F64.total_before y x ≡ false → x ≡ y
-unfolding F64.total_before F64.is_sign_negative lt eq is_nan
+before_same : (x y : Float) → IsF64 x → IsF64 y → F64.is_total_before x y ≡ false → F64.is_total_before y x ≡ false → x ≡ y
+unfolding F64.is_total_before F64.is_sign_negative lt eq is_nan
 before_same nan nan f g p q = refl
 before_same nan (inf t) f g p q = yes q
 before_same nan (fin t n d) f g p q = yes q

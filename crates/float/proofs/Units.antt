@@ -26,8 +26,8 @@ unfoldable pub held : ℕ → Float
 held n = round binary64 false n (2 ^ 1074)
 
 -- at most 53 digits, and zeros after them
-abbrev pub Few : ℕ → Type 0
-Few n = (q : ℕ) × (j : ℕ) × (q < 2 ^ 53) × (n ≡ q * 2 ^ j)
+abbrev pub Within53Bits : ℕ → Type 0
+Within53Bits n = (q : ℕ) × (j : ℕ) × (q < 2 ^ 53) × (n ≡ q * 2 ^ j)
 
 -- x has no sign and is g units
 abbrev pub Worth : Float → ℕ → Type 0
@@ -36,7 +36,7 @@ Worth x g = HasValue x false g (2 ^ 1074)
 -- and g is a size that an f64 can have
 pub record Count (x : Float) (g : ℕ) : Type 0 where
   pub value : Worth x g
-  pub few : Few g
+  pub few : Within53Bits g
   pub under : g < 2 ^ 2098
 
 -- every f64 with no sign that is finite
@@ -68,7 +68,7 @@ count_of (fin false (suc m) (negsuc k)) t a f =
     )
 
 -- such a size is kept
-pub held_count : (n : ℕ) → Few n → n < 2 ^ 2098 → Count (held n) n
+pub held_count : (n : ℕ) → Within53Bits n → n < 2 ^ 2098 → Count (held n) n
 unfolding held
 held_count n w l = record { value = round_exact binary64 false n (2 ^ 1074) w.0 w.1 (pow_pos 1074) w.2 (subst (λ (x : ℕ). x < 2 ^ 2098) w.3 l) (ap (λ (x : ℕ). x * 2 ^ 1074) w.3); few = w; under = l }
 
@@ -140,7 +140,8 @@ same_lt a b k g h K p q = go (ltb g h) refl
     go false e = le-ltb a b (gives b a k h g K q p (ltb-false g h e))
 
 pub plainly : (g h : ℕ) (P : Float → Float → Type 0)
-    → ((m : ℕ) (e : ℤ) (n : ℕ) (d : ℤ) → 0 < down e * down d → Part (m * up e * down d) (down e * down d) g → Part (n * up d * down e) (down e * down d) h → P (fin false m e) (fin false n d))
+    → ((m : ℕ) (e : ℤ) (n : ℕ) (d : ℤ) → 0 < down e * down d → Part (m * up e * down d) (down e * down d) g
+    → Part (n * up d * down e) (down e * down d) h → P (fin false m e) (fin false n d))
     → (x y : Float) → Worth x g → Worth y h → P x y
 plainly g h P at nan y p q = absurd p
 plainly g h P at (inf s) y p q = absurd p

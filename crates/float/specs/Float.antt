@@ -24,7 +24,8 @@ abs nan = nan
 abs (inf s) = inf false
 abs (fin s m e) = fin false m e
 
--- f64::signum, "1.0 if the number is positive, +0.0 or INFINITY; -1.0 if the number is negative, -0.0 or NEG_INFINITY; NaN if the number is NaN"
+-- f64::signum, "1.0 if the number is positive, +0.0 or INFINITY; -1.0 if the number is negative, -0.0 or
+-- NEG_INFINITY; NaN if the number is NaN"
 unfoldable pub signum : Float → Float
 signum nan = nan
 signum (inf s) = fin s 1 (pos 0)
@@ -46,12 +47,14 @@ unfoldable pub min : Float → Float → Float
 min x y = cond (is_nan y) x (cond (lt x y) x y)
 
 -- f64::clamp, "max if self is greater than max, and min if self is less than min. Otherwise self".
--- The page leaves open which zero is returned where the result is zero and zeros of both signs are among the three; here it is what
--- the source's two tests give. It panics where min > max or one of them is NaN; here the same two tests give an answer.
+-- The page leaves open which zero is returned where the result is zero and zeros of both signs are among the three;
+-- here it is what the source's two tests give. It panics where min > max or one of them is NaN; here the same two
+-- tests give an answer.
 unfoldable pub clamp : Float → Float → Float → Float
 clamp x least most = let y = cond (lt x least) least x in cond (lt most y) most y
 
--- f64::rem_euclid, "the least nonnegative remainder of self when divided by rhs", by its source: r = self % rhs, and r + |rhs| if r < 0
+-- f64::rem_euclid, "the least nonnegative remainder of self when divided by rhs", by its source: r = self % rhs, and
+-- r + |rhs| if r < 0
 unfoldable pub rem_euclid : Float → Float → Float
 rem_euclid x rhs = let r = rem binary64 x rhs in cond (lt r zero) (add binary64 r (abs rhs)) r
 
@@ -61,10 +64,12 @@ is_sign_negative nan = false
 is_sign_negative (inf s) = s
 is_sign_negative (fin s m e) = s
 
--- f64::total_cmp is Less. The page's order: negative infinity, negative numbers, negative zero, positive zero, positive numbers,
--- positive infinity, positive NaN. The one nan is taken as positive; a negative NaN, which stands first there, has no name here.
-unfoldable pub total_before : Float → Float → Bool
-total_before x y = cond (eq x y) (is_sign_negative x && not (is_sign_negative y)) (lt x y || (not (is_nan x) && is_nan y))
+-- f64::total_cmp is Less. The page's order: negative infinity, negative numbers, negative zero, positive zero,
+-- positive numbers, positive infinity, positive NaN. The one nan is taken as positive; a negative NaN, which stands
+-- first there, has no name here.
+unfoldable pub is_total_before : Float → Float → Bool
+is_total_before x y =
+    cond (eq x y) (is_sign_negative x && not (is_sign_negative y)) (lt x y || (not (is_nan x) && is_nan y))
 
 -- f64::to_bits of a number, and 0 at the nan, whose bits are left open
 unfoldable pub number_bits : Float → ℕ

@@ -4,7 +4,7 @@
 ghost use Rattle.std.specs.Prelude.{◌≡◌};
 ghost use Rattle.float.specs.Float as Float;
 ghost use Rattle.float.specs.Float.{number_bits};
-ghost use Rattle.float.specs.Parts.{before};
+ghost use Rattle.float.specs.Parts.{is_before};
 
 mod remainder;
 
@@ -45,7 +45,8 @@ pub fn is_finite(x: f64) -> bool
 }
 
 // f64::max
-// Stays: of two zeros the library's promises only that it returns one of them, and the definition says which: the second. min likewise.
+// Stays: of two zeros the library's promises only that it returns one of them, and the definition says which: the
+// second. min likewise.
 #[tactic(auto, unfolding(crate::specs::Float::max))]
 pub fn max(x: f64, y: f64) -> f64
     ensures { result ≡ Float.max x y }
@@ -62,8 +63,8 @@ pub fn min(x: f64, y: f64) -> f64
 }
 
 // f64::clamp, without its panic.
-// Stays: the library's requires that min is at most max, which `manual_velocity` does not ask of its max speed; where it is not, these two tests would be
-// needed all the same.
+// Stays: the library's requires that min is at most max, which `manual_velocity` does not ask of its max speed; where
+// it is not, these two tests would be needed all the same.
 #[tactic(auto, unfolding(crate::specs::Float::clamp))]
 pub fn clamp(x: f64, min: f64, max: f64) -> f64
     ensures { result ≡ Float.clamp x min max }
@@ -73,7 +74,8 @@ pub fn clamp(x: f64, min: f64, max: f64) -> f64
 }
 
 // f64::rem_euclid
-// Stays: the library's is by `%`, which compiled code takes from the C library as fmod@GLIBC_2.38: a machine with an older one runs no program of ours.
+// Stays: the library's is by `%`, which compiled code takes from the C library as fmod@GLIBC_2.38: a machine with an
+// older one runs no program of ours.
 #[tactic(auto, unfolding(crate::specs::Float::rem_euclid))]
 pub fn rem_euclid(x: f64, rhs: f64) -> f64
     ensures { result ≡ Float.rem_euclid x rhs }
@@ -91,21 +93,22 @@ pub fn number_bits(x: f64) -> u64
 }
 
 // Whether x is below y, or y alone is not a number: 0 and -0 alike, a NaN last.
-pub fn before(x: f64, y: f64) -> bool
-    ensures { result ≡ before x y }
+pub fn is_before(x: f64, y: f64) -> bool
+    ensures { result ≡ is_before x y }
 {
     (x < y) | !x.is_nan() & y.is_nan()
 }
 
 // Whether f64::total_cmp of x and y is Less, a NaN taken as positive.
-// Stays: the library's total_cmp takes no NaN; behind two tests of NaN it seeks the least of 16 in 43 ns in place of 22.
-#[tactic(auto, using(crate::proofs::Cases::sign_is, crate::proofs::Cases::equal_number), unfolding(crate::specs::Float::total_before))]
-pub fn total_before(x: f64, y: f64) -> bool
-    ensures { result ≡ Float.total_before x y }
+// Stays: the library's total_cmp takes no NaN; behind two tests of NaN it seeks the least of 16 in 43 ns in place of
+// 22.
+#[tactic(auto, using(crate::proofs::Cases::sign_is, crate::proofs::Cases::equal_number), unfolding(crate::specs::Float::is_total_before))]
+pub fn is_total_before(x: f64, y: f64) -> bool
+    ensures { result ≡ Float.is_total_before x y }
 {
     if x == y {
         x.is_sign_negative() & !y.is_sign_negative()
     } else {
-        before(x, y)
+        is_before(x, y)
     }
 }

@@ -1,4 +1,5 @@
-// The remainder of a division of two floats, without the operator `%`: compiled code takes that from the C library, and needs a late version of it.
+// The remainder of a division of two floats, without the operator `%`: compiled code takes that from the C library,
+// and needs a late version of it.
 
 ghost use Rattle.std.specs.Prelude.{◌≡◌, true};
 ghost use Rattle.std.specs.Float.{binary64};
@@ -7,8 +8,8 @@ ghost use Rattle.float.specs.Float as Float;
 
 use crate::{abs, is_finite};
 
-// Of a size and a divisor: 2 * b is taken off first, then b once where it still fits. Each step is exact. A b + b that is infinite is above every a.
-// From the largest float to the smallest it is 2,099 calls deep.
+// Of a size and a divisor: 2 * b is taken off first, then b once where it still fits. Each step is exact. A b + b
+// that is infinite is above every a. From the largest float to the smallest it is 2,099 calls deep.
 fn reduced(a: f64, b: f64) -> f64
     requires unsigned { Float.abs a ≡ a }
     requires finite { Float.is_finite a ≡ true }

@@ -19,7 +19,8 @@ how_many_few test [] = omega arith
 how_many_few test (x ∷ xs) = omega (arith, bit_small (test x), how_many_few test xs)
 
 -- counting in parts is counting the whole
-pub how_many_append : {A : Type 0} (test : A → Bool) (xs ys : List A) → how_many test (xs ++ ys) ≡ how_many test xs + how_many test ys
+pub how_many_append : {A : Type 0} (test : A → Bool) (xs ys : List A)
+    → how_many test (xs ++ ys) ≡ how_many test xs + how_many test ys
 unfolding how_many
 how_many_append test [] ys = omega arith
 how_many_append test (x ∷ xs) ys = omega (arith, how_many_append test xs ys)

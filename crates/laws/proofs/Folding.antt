@@ -18,6 +18,7 @@ fold_to f a xs d g none more (suc n) h = rw (← more n, ← fold_to f a xs d g 
 
 -- where `g n` is whether one of the first n passes the test
 pub list_any_to : {X : Type 0} (p : X → Bool) (xs : List X) (d : X) (g : ℕ → Bool)
-    → false ≡ g 0 → ((k : ℕ) → (g k || p (get_or xs k d)) ≡ g (suc k)) → (n : ℕ) → n ≤ length xs → list_any p (take n xs) ≡ g n
+    → false ≡ g 0 → ((k : ℕ) → (g k || p (get_or xs k d)) ≡ g (suc k)) → (n : ℕ) → n ≤ length xs
+    → list_any p (take n xs) ≡ g n
 list_any_to p xs d g none more zero h = none
 list_any_to p xs d g none more (suc n) h = rw (← more n, ← list_any_to p xs d g none more n (omega arith), ← list_any_more p xs n d h) (rw add-one)

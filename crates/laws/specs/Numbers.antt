@@ -1,7 +1,8 @@
 -- Numbers, as machine words have them.
 use Rattle.std.specs.Prelude.{Bool, cond, ℕ, ◌+◌, ◌%◌, ◌^◌}
 
--- `+` of u64. Where it is used nothing comes near its end: `NothingWraps` of `tick` for counters, `Counting` of `report` for a log's counts.
+-- `+` of u64. Where it is used nothing comes near its end: `NothingWraps` of `tick` for counters, `Counting` of
+-- `report` for a log's counts.
 unfoldable pub plus : ℕ → ℕ → ℕ
 plus a b = (a + b) % 2 ^ 64
 

@@ -15,7 +15,7 @@ use Rattle.float.specs.Facts.{IsF64}
 use Rattle.float.proofs.Cases.{null_le_zero, minus_le_zero, placed_minus}
 use Rattle.laws.proofs.Bools.{no}
 use Rattle.float.proofs.Rounding.{round_self}
-use Rattle.motion.specs.Cyclic.{InCircle, degenerate, wrap_position}
+use Rattle.motion.specs.Cyclic.{InCircle, is_degenerate, wrap_position}
 
 rem_inside : (s : Bool) (m : ℕ) (e : ℤ) (n : ℕ) (d : ℤ) → IsF64 (fin s m e) → m * up e * down d < suc n * up d * down e → rem binary64 (fin s m e) (fin false (suc n) d) ≡ fin s m e
 unfolding rem
@@ -60,4 +60,4 @@ wrap_inside (inf true) (fin false (suc n) d) t i = no i.0
 wrap_inside (inf false) (fin false (suc n) d) t i = no i.1
 wrap_inside (fin s m e) (fin false (suc n) d) t i =
     let h = less s m e n d i in
-    rw (rem_inside s m e n d t h, not_below s m e i.0, not_past s m e n d h) (cond_same (degenerate (fin false (suc n) d) || false) (fin s m e))
+    rw (rem_inside s m e n d t h, not_below s m e i.0, not_past s m e n d h) (cond_same (is_degenerate (fin false (suc n) d) || false) (fin s m e))

@@ -5,8 +5,8 @@ ghost use Rattle.motion.specs.Cyclic as Cyclic;
 use float::{is_finite, min, rem_euclid};
 
 // Whether there is no circle.
-pub fn degenerate(circumference: f64) -> bool
-    ensures { result ≡ Cyclic.degenerate circumference }
+pub fn is_degenerate(circumference: f64) -> bool
+    ensures { result ≡ Cyclic.is_degenerate circumference }
 {
     !is_finite(circumference) | (circumference <= 0.0)
 }
@@ -19,7 +19,7 @@ pub fn wrap_position(p: f64, circumference: f64) -> f64
     if (0.0 <= p) & (p < circumference) {
         return p; // it lies in the circle already
     }
-    if degenerate(circumference) | !is_finite(p) {
+    if is_degenerate(circumference) | !is_finite(p) {
         return p;
     }
     let r = rem_euclid(p, circumference);
@@ -31,7 +31,7 @@ pub fn wrap_position(p: f64, circumference: f64) -> f64
 pub fn forward_distance(from: f64, to: f64, circumference: f64) -> f64
     ensures { result ≡ Cyclic.forward_distance from to circumference }
 {
-    if degenerate(circumference) | !is_finite(from) | !is_finite(to) {
+    if is_degenerate(circumference) | !is_finite(from) | !is_finite(to) {
         return 0.0;
     }
     let from = wrap_position(from, circumference);
@@ -45,7 +45,7 @@ pub fn forward_distance(from: f64, to: f64, circumference: f64) -> f64
 pub fn cyclic_distance(a: f64, b: f64, circumference: f64) -> f64
     ensures { result ≡ Cyclic.cyclic_distance a b circumference }
 {
-    if degenerate(circumference) {
+    if is_degenerate(circumference) {
         return 0.0;
     }
     let fwd = forward_distance(a, b, circumference);

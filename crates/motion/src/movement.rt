@@ -2,10 +2,10 @@
 ghost use Rattle.std.specs.Prelude.{◌≡◌};
 ghost use Rattle.motion.specs.Movement as Movement;
 
-use crate::cyclic::{degenerate, forward_distance, wrap_position};
+use crate::cyclic::{forward_distance, is_degenerate, wrap_position};
 use float::{EPSILON, abs, is_finite, max, signum};
-use velocity::fp::fma;
-use velocity::new_velocity;
+use motion_velocity::fp::fma;
+use motion_velocity::new_velocity;
 
 // The distance in which a car brakes to a stop; 0 where the rate is 0 or below.
 #[tactic(auto, unfolding(crate::specs::Movement::braking_distance))]
@@ -102,7 +102,7 @@ pub fn tick_movement_cyclic(
     ensures { result ≡ Movement.tick_movement_cyclic
         position velocity target_position max_speed acceleration deceleration dt circumference }
 {
-    if degenerate(circumference) {
+    if is_degenerate(circumference) {
         return moved_to(position, 0.0);
     }
     let pos = wrap_position(position, circumference);
@@ -136,7 +136,7 @@ pub fn headway_clamp_target(
     ensures { result ≡ Movement.headway_clamp_target
         trailer_position leader_position intended_target min_headway circumference }
 {
-    if degenerate(circumference) | !is_finite(min_headway) {
+    if is_degenerate(circumference) | !is_finite(min_headway) {
         return intended_target;
     }
     let trailer = wrap_position(trailer_position, circumference);

@@ -1,7 +1,7 @@
 -- What a call gives, case by case. Assumes nothing.
 use Rattle.std.proofs.Common.{◌≡◌, ℕ, ◌≤◌, Bool, true, false, cond, List, [], ◌∷◌, length, refl, ap, ◌∙◌, arith, ltb-false}
 use lib.Ieee.{Float}
-use Rattle.sound.specs.Sound.{broken}
+use Rattle.world_sound.specs.Sound.{is_broken}
 use Rattle.world.specs.Refusal.{Check, unless}
 use Rattle.world.proofs.Checks.{unless_passed}
 use Rattle.world.specs.declared.World.{World}
@@ -18,7 +18,7 @@ use Rattle.tick.specs.Tick.{tick_world, tick_words}
 use Rattle.tick.specs.Room.{room_of, WordsFit}
 use Rattle.tick.proofs.Proved.{words_fit}
 use Rattle.record.specs.declared.Recorded.{Recorded}
-use Rattle.record.specs.Record.{Outcome, Gives, answer_numbers, refused, checks_of_tick, ticked, tick_once, made_of, read_by, record_of}
+use Rattle.record.specs.Record.{Outcome, Gives, answer_numbers, refused, tick_checks, tick_accepted, tick_outcome, outcome_by, read_by, record_of}
 
 -- a refusal: the answer, and the world as it was
 abbrev pub Says : Recorded → World → Refusal → Type 0
@@ -54,29 +54,32 @@ module _ (w : World) (log : List ℕ) where
       by true k h = rw (← h)
       by false k h = k h
 
-  tick_said : (used : ℕ) (dt : Float) (t : Result (Unit {0}) Refusal) → tick_says ≡ t → tick_once w log used dt ≡ said_of (ticked w log used dt) t
-  unfolding tick_once tick_taken
-  tick_said used dt t e = said (ticked w log used dt) (checks_of_tick w log) t e
+  tick_said : (used : ℕ) (dt : Float) (t : Result (Unit {0}) Refusal) → tick_says ≡ t → tick_outcome w log used dt ≡ said_of (tick_accepted w log used dt) t
+  unfolding tick_outcome tick_taken
+  tick_said used dt t e = said (tick_accepted w log used dt) (tick_checks w log) t e
 
   -- a tick that is taken has room
   has_room_lem : tick_says ≡ Ok tt → room_of w ≤ length log
   unfolding tick_taken room_of
-  has_room_lem e = ltb-false (length log) (room_of w) (unless_passed (checks_of_tick w log) not_both e).0.1.1.0
+  has_room_lem e = ltb-false (length log) (room_of w) (unless_passed (tick_checks w log) not_both e).0.1.1.0
 
   -- ---- what was read
 
-  pub is_refused : {r : Recorded} {d : Result Read Refusal} {f : Refusal} → d ≡ Err f → Says r w f → Gives r log (read_by w log d)
+  pub is_refused : {r : Recorded} {d : Result Read Refusal} {f : Refusal} → d ≡ Err f → Says r w f
+      → Gives r log (read_by w log d)
   is_refused d h = rw d (refusal_gives h)
 
-  pub is_made : {r : Recorded} {left : List ℕ} {d : Result Read Refusal} {read : Read} {found : Found} → d ≡ Ok read → read.found ≡ found
-      → Gives r left (made_of w log read.used found) → Gives r left (read_by w log d)
+  pub is_made : {r : Recorded} {left : List ℕ} {d : Result Read Refusal} {read : Read} {found : Found} → d ≡ Ok read
+      → read.found ≡ found → Gives r left (outcome_by w log read.used found) → Gives r left (read_by w log d)
   is_made d f h = rw (d, f) h
 
-  pub tick_refused : {r : Recorded} (used : ℕ) (dt : Float) {f : Refusal} → tick_says ≡ Err f → Says r w f → Gives r log (made_of w log used (Tick dt))
+  pub tick_refused : {r : Recorded} (used : ℕ) (dt : Float) {f : Refusal} → tick_says ≡ Err f → Says r w f
+      → Gives r log (outcome_by w log used (Tick dt))
   tick_refused used dt {f = f} t h = rw (tick_said used dt (Err f) t) (refusal_gives h)
 
-  pub tick_taken_lem : {r : Recorded} {left : List ℕ} {at : ℕ} (used : ℕ) (dt : Float) → tick_says ≡ Ok tt → r.answer ≡ Ok (record { used = used; written = at }) → r.world ≡ tick_world w dt → Wrote log 0 (tick_words w dt) left at
-      → Gives r left (made_of w log used (Tick dt))
+  pub tick_taken_lem : {r : Recorded} {left : List ℕ} {at : ℕ} (used : ℕ) (dt : Float) → tick_says ≡ Ok tt
+      → r.answer ≡ Ok (record { used = used; written = at }) → r.world ≡ tick_world w dt
+      → Wrote log 0 (tick_words w dt) left at → Gives r left (outcome_by w log used (Tick dt))
   unfolding WordsFit
   tick_taken_lem {at = at} used dt t n m h =
       let fits : length (tick_words w dt) ≤ room_of w = words_fit w dt in
@@ -85,11 +88,13 @@ module _ (w : World) (log : List ℕ) where
 
   -- ---- the record call
 
-  pub is_broken : {r : Recorded} (words : List ℕ) → broken w ≡ true → Says r w BrokenWorld → Gives r log (record_of w words log)
+  pub gives_broken : {r : Recorded} (words : List ℕ) → is_broken w ≡ true → Says r w BrokenWorld
+      → Gives r log (record_of w words log)
   unfolding record_of
-  is_broken words e h = rw e (refusal_gives h)
+  gives_broken words e h = rw e (refusal_gives h)
 
-  pub is_whole : {r : Recorded} {left : List ℕ} (words : List ℕ) {d : Result Read Refusal} → broken w ≡ false → d ≡ decoded words → Gives r left (read_by w log d)
+  pub is_whole : {r : Recorded} {left : List ℕ} (words : List ℕ) {d : Result Read Refusal} → is_broken w ≡ false
+      → d ≡ decoded words → Gives r left (read_by w log d)
       → Gives r left (record_of w words log)
   unfolding record_of
   is_whole words e d h = rw e (rw d at h)

@@ -4,7 +4,8 @@ use Rattle.world.specs.declared.World.{World}
 use Rattle.layout.specs.Layout.{kind_of}
 use Rattle.record.specs.Record.{Outcome, record_of, is_accepted}
 
--- "An empty world has nothing loaded or queued, no hall call, no start, no tick made and every counter 0." What lies in its tables, past their counts, may be anything.
+-- "An empty world has nothing loaded or queued, no hall call, no start, no tick made and every counter 0." What lies
+-- in its tables, past their counts, may be anything.
 pub record Empty (w : World) : Type 0 where
   pub stops : w.stops.count ≡ 0
   pub lines : w.lines.count ≡ 0
@@ -19,27 +20,27 @@ pub record Empty (w : World) : Type 0 where
   pub places : length w.cars.items ≡ 16
 
 -- one call: its words and its log. "A call's log may have any length and hold anything before."
-pub record Call : Type 0 where
+pub record RecordCall : Type 0 where
   pub words : List ℕ
   pub log : List ℕ
 
 -- what the call gives in a world
-unfoldable pub outcome : World → Call → Outcome
+unfoldable pub outcome : World → RecordCall → Outcome
 outcome w c = record_of w c.words c.log
 
 -- the world that it leaves
-unfoldable pub next : World → Call → World
-next w c = (outcome w c).world
+unfoldable pub next_world : World → RecordCall → World
+next_world w c = (outcome w c).world
 
 -- the call's head word
-abbrev pub head_word : Call → ℕ
+abbrev pub head_word : RecordCall → ℕ
 head_word c = slice_index c.words 0
 
 -- an accepted record of that kind
-abbrev pub accepted_kind : ℕ → World → Call → Bool
-accepted_kind k w c = is_accepted (outcome w c).answer && kind_of (head_word c) == k
+abbrev pub is_accepted_kind : ℕ → World → RecordCall → Bool
+is_accepted_kind k w c = is_accepted (outcome w c).answer && kind_of (head_word c) == k
 
 -- the world as the list leaves it
-unfoldable pub world_after : World → List Call → World
+unfoldable pub world_after : World → List RecordCall → World
 world_after w [] = w
-world_after w (c ∷ cs) = world_after (next w c) cs
+world_after w (c ∷ cs) = world_after (next_world w c) cs

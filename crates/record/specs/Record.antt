@@ -1,7 +1,8 @@
--- The record call: one record of a tape, from the world, the words and the log to the answer, the next world and the log.
+-- The record call: one record of a tape, from the world, the words and the log to the answer, the next world and the
+-- log.
 use Rattle.std.specs.Prelude.{Result, Ok, Err, ◌≡◌, ℕ, Bool, true, false, List, [], ◌∷◌, length, Float}
 use Rattle.std.proofs.lemmas.List.Edits.{sets}
-use Rattle.sound.specs.Sound.{broken}
+use Rattle.world_sound.specs.Sound.{is_broken}
 use Rattle.std.specs.declared.option.Option.{Option}
 use Rattle.std.specs.declared.option.Option.TheVariants.{None, Some}
 use Rattle.world.specs.Refusal.{Check, check, unless, refusal_number}
@@ -12,8 +13,8 @@ use Rattle.tape.specs.Tape.{decoded}
 use Rattle.tape_records.specs.declared.Read.{Read}
 use Rattle.tape_records.specs.declared.Found.{Found}
 use Rattle.tape_records.specs.declared.Found.TheVariants.{Change, Tick}
-use Rattle.changes.specs.Changes.{Changed}
-use Rattle.record_kinds.specs.Kinds.{change_by, tick_checks}
+use Rattle.record_start.specs.Changes.{Effect}
+use Rattle.record_kinds.specs.Kinds.{change_by, tick_checks_by}
 use Rattle.tick.specs.Tick.{tick_world, tick_words}
 use Rattle.record.specs.declared.Accepted.{Accepted}
 use Rattle.record.specs.declared.Recorded.{Recorded}
@@ -68,34 +69,34 @@ pub record Gives (r : Recorded) (left : List ℕ) (o : Outcome) : Type 0 where
 
 -- ---- every record but the tick: no word is written, the log is as it was
 
-abbrev pub changed : World → List ℕ → ℕ → Changed → Outcome
-changed w log used (Ok next) = accepted used 0 next log
-changed w log used (Err r) = refused w log r
+abbrev pub change_outcome : World → List ℕ → ℕ → Effect → Outcome
+change_outcome w log used (Ok next) = accepted used 0 next log
+change_outcome w log used (Err r) = refused w log r
 
 -- ---- C tick: "A tick writes its words from the log's start; later words stay."
 
 -- 6, 11, 12
-abbrev pub checks_of_tick : World → List ℕ → List Check
-checks_of_tick w log = tick_checks w.started w.ticks w.cars.count w.stops.count (length log)
+abbrev pub tick_checks : World → List ℕ → List Check
+tick_checks w log = tick_checks_by w.started w.ticks w.cars.count w.stops.count (length log)
 
-abbrev pub ticked : World → List ℕ → ℕ → Float → Outcome
-ticked w log used dt = accepted used (length (tick_words w dt)) (tick_world w dt) (sets log 0 (tick_words w dt))
+abbrev pub tick_accepted : World → List ℕ → ℕ → Float → Outcome
+tick_accepted w log used dt = accepted used (length (tick_words w dt)) (tick_world w dt) (sets log 0 (tick_words w dt))
 
-unfoldable pub tick_once : World → List ℕ → ℕ → Float → Outcome
-tick_once w log used dt = unless (checks_of_tick w log) (refused w log) (ticked w log used dt)
+unfoldable pub tick_outcome : World → List ℕ → ℕ → Float → Outcome
+tick_outcome w log used dt = unless (tick_checks w log) (refused w log) (tick_accepted w log used dt)
 
 -- ---- the record call
 
 -- the record, of so many words
-abbrev pub made_of : World → List ℕ → ℕ → Found → Outcome
-made_of w log used (Change found) = changed w log used (change_by w found)
-made_of w log used (Tick dt) = tick_once w log used dt
+abbrev pub outcome_by : World → List ℕ → ℕ → Found → Outcome
+outcome_by w log used (Change found) = change_outcome w log used (change_by w found)
+outcome_by w log used (Tick dt) = tick_outcome w log used dt
 
 -- refusals 1 to 4, or the record
 abbrev pub read_by : World → List ℕ → Result Read Refusal → Outcome
 read_by w log (Err r) = refused w log r
-read_by w log (Ok read) = made_of w log read.used read.found
+read_by w log (Ok read) = outcome_by w log read.used read.found
 
 -- "Checked in the order of the numbers": 0, then what the tape says, then what the state says
 unfoldable pub record_of : World → List ℕ → List ℕ → Outcome
-record_of w words log = unless (check BrokenWorld (broken w) ∷ []) (refused w log) (read_by w log (decoded words))
+record_of w words log = unless (check BrokenWorld (is_broken w) ∷ []) (refused w log) (read_by w log (decoded words))

@@ -6,24 +6,24 @@ ghost use Rattle.record.specs.Record as Call;
 ghost use Rattle.record.specs.Says.{AnswersSay};
 ghost use Rattle.record_kinds.specs.Kinds.{change_by};
 
-use arrival::{asks_work, work_of};
-use door_commands::has_rider_traversing;
-use doors_system::{door_turn, has_turn};
-use hall_calls::clear_hall_calls;
-use landing::{landing, leader_of};
+use doors_calls::clear_hall_calls;
+use doors_commands::has_rider_traversing;
+use doors_turn::{door_turn, has_turn};
 use log_words::Event;
 use log_writes::Log;
-use movement_system::sort::SortedStops;
-use movement_system::turn::tell;
-use moves::{come, distance_by};
+use move_arrival::{is_direction_asked, lamps_on_arrival};
+use move_by_trip::{arrive, distance_by};
+use move_landing::{landing, leader_position};
+use move_trip::{has_trip, trip_of};
+use move_turn::sort::SortedStops;
+use move_turn::turn::emit_turn;
 use record_kinds::{change, take_tick};
-use sound::broken;
-use steps::line_at;
 use tape::decode;
 use tape_records::{Found, Record};
-use trips::{is_trip, trip_of};
+use turn::line_of;
 use world::World;
 use world::refusal::Refusal;
+use world_sound::is_broken;
 
 // An accepted record: the words used and the log words written.
 #[derive(Clone, Copy, Default)]
@@ -52,10 +52,11 @@ fn refused(world: World, refusal: Refusal) -> Recorded
     }
 }
 
-// What a record gives that writes no word. The hint keeps its worlds out of the tick, where they would be cleared: 100 ns a tick.
+// What a record gives that writes no word. The hint keeps its worlds out of the tick, where they would be cleared:
+// 100 ns a tick.
 #[inline(never)]
 fn answered(world: World, found: Record, used: usize) -> Recorded
-    ensures { (log : List ℕ) → Call.Gives result log (Call.changed world log used (change_by world found)) }
+    ensures { (log : List ℕ) → Call.Gives result log (Call.change_outcome world log used (change_by world found)) }
 {
     match change(world, found) {
         Ok(next) => Recorded {
@@ -66,14 +67,14 @@ fn answered(world: World, found: Record, used: usize) -> Recorded
     }
 }
 
-// One record call: refusal 0; every record but the tick; then one tick, as movement.rs and doors.rs have it.
-// The loops stand in one function: between two the world of 5.6 KB would be copied.
+// One record call: refusal 0; every record but the tick; then one tick, as systems/movement.rs and systems/doors.rs
+// have it. The loops stand in one function: between two the world of 5.6 KB would be copied.
 pub fn record(world: World, words: &[u32], log: &mut [u32]) -> Recorded
     ensures { Call.Gives result log.new (Call.record_of world words.now log.old) }
 {
     // 1. refusal 0
     let mut w = world;
-    if broken(&w) {
+    if is_broken(&w) {
         return refused(w, Refusal::BrokenWorld);
     }
     // 2. refusals 1 to 12, and every record but the tick
@@ -88,44 +89,47 @@ pub fn record(world: World, words: &[u32], log: &mut [u32]) -> Recorded
     if let Err(refusal) = take_tick(&w, log.len()) {
         return refused(w, refusal);
     }
-    // 3. the tick's word; movement.rs, run: car by car, each on positions already updated in this tick. A car at rest is left alone.
+    // 3. the tick's word; systems/movement.rs, run: car by car, each on positions already updated in this tick. A car
+    // at rest is left alone.
     let cars = w.cars.count.min(16);
     let sort = SortedStops::new(&w.stops);
     let mut log = Log::new(log);
     log.emit(Event::TickMade { tick: w.ticks });
-    // Stays: by the number. Each turn writes the table of cars that the next one reads, and an iterator would borrow it for the whole loop.
+    // Stays: by the number. Each turn writes the table of cars that the next one reads, and an iterator would borrow
+    // it for the whole loop.
     for i in 0..cars {
         let car = w.cars.items[i];
         let trip = trip_of(car);
-        if is_trip(trip) {
+        if has_trip(trip) {
             let number = i as u8;
-            let kind = line_at(&w.lines.items, car.line).kind;
-            let leader = leader_of(kind, &w.cars, i, car);
+            let kind = line_of(&w.lines.items, car.line).kind;
+            let leader = leader_position(kind, &w.cars, i, car);
             let landed = landing(trip, kind, leader, car, &w.stops.items, dt);
-            let lamps = if asks_work(trip, kind, landed.arrived) {
-                work_of(trip, &w.riders, car, &w.stops.items, number)
+            let lamps = if is_direction_asked(trip, kind, landed.arrived) {
+                lamps_on_arrival(trip, &w.riders, car, &w.stops.items, number)
             } else {
                 car.lamps
             };
-            let moves = tell(&mut log, number, trip, kind, car, landed, lamps, &sort);
+            let moves = emit_turn(&mut log, number, trip, kind, car, landed, lamps, &sort);
             let new = landed.motion;
             w.cars.items[i].motion = new;
             w.cars.items[i].move_count = car.move_count.wrapping_add(moves);
             w.total_moves = w.total_moves.wrapping_add(moves);
             w.reposition_distance = distance_by(trip, kind, w.reposition_distance, car.motion, new);
             if landed.arrived {
-                w.cars.items[i] = come(w.cars.items[i], trip, lamps, w.ticks);
+                w.cars.items[i] = arrive(w.cars.items[i], trip, lamps, w.ticks);
             }
         }
     }
     // 4. doors.rs, run: commands, then the door's tick, car by car; then the hall calls clear
     let mut just_opened = [None; 16];
-    // Stays: by the number too, as a turn writes two tables at one place and tells it: `enumerate` of `zip` of two `iter_mut` would name three things for `i`.
+    // Stays: by the number too, as a turn writes two tables at one place and names it: `enumerate` of `zip` of two
+    // `iter_mut` would name three things for `i`.
     for i in 0..cars {
         if has_turn(&w.cars.items[i]) {
             let mut car = w.cars.items[i];
             let number = i as u8;
-            let line = line_at(&w.lines.items, car.line);
+            let line = line_of(&w.lines.items, car.line);
             let traversing = car.door_command_queue.count != 0
                 && has_rider_traversing(&w.riders, number);
             just_opened[i] = door_turn(&mut log, number, &mut car, line, traversing, &w.stops);

@@ -6,32 +6,32 @@ ghost use Rattle.record_kinds.specs.Kinds.{change_by};
 ghost use Rattle.record_kinds.specs.Parts.{tick_taken};
 ghost use Rattle.record_kinds.specs.PaperRoom.{PaperRoom};
 
-use changes::Changed;
+use record_start::Effect;
 use tape_records::Record;
 use world::World;
 use world::refusal::{Refusal, refuse_if};
 
 // Kinds 1 to B and D: what the state refuses, or the world after the record.
-pub fn change(world: World, read: Record) -> Changed
+pub fn change(world: World, read: Record) -> Effect
     ensures { result ≡ change_by world read }
 {
     match read {
-        Record::Line { number, line } => loads::load_line(world, number, line),
-        Record::Stop { number, position } => loads::load_stop(world, number, position),
-        Record::Car { number, plan } => loads::load_car(world, number, plan),
-        Record::Rider { number, rider } => loads::load_rider(world, number, rider),
+        Record::Line { number, line } => record_loads::load_line(world, number, line),
+        Record::Stop { number, position } => record_loads::load_stop(world, number, position),
+        Record::Car { number, plan } => record_loads::load_car(world, number, plan),
+        Record::Rider { number, rider } => record_loads::load_rider(world, number, rider),
         Record::Send {
             car,
             stop,
             reposition,
-        } => orders::send(world, car, stop, reposition),
-        Record::Mode { car, mode } => modes::set_mode(world, car, mode),
-        Record::ManualSpeed { car, speed } => modes::set_manual_speed(world, car, speed),
-        Record::DoorCommand { car, command } => requests::queue_command(world, car, command),
-        Record::HallCall { stop, down } => requests::press_hall_call(world, stop, down),
-        Record::Destination { car, stop } => requests::push_destination(world, car, stop),
-        Record::Enable { car, enabled } => modes::set_enabled(world, car, enabled),
-        Record::Start => changes::start(world),
+        } => record_send::send(world, car, stop, reposition),
+        Record::Mode { car, mode } => record_modes::set_mode(world, car, mode),
+        Record::ManualSpeed { car, speed } => record_modes::set_manual_speed(world, car, speed),
+        Record::DoorCommand { car, command } => record_queues::queue_command(world, car, command),
+        Record::HallCall { stop, down } => record_queues::press_hall_call(world, stop, down),
+        Record::Destination { car, stop } => record_queues::push_destination(world, car, stop),
+        Record::Enable { car, enabled } => record_modes::set_enabled(world, car, enabled),
+        Record::Start => record_start::start(world),
     }
 }
 

@@ -5,7 +5,7 @@
 
 use std::io::{self, Read, Write};
 use std::process::ExitCode;
-use study_step::{End, Got, begin, reads, step};
+use study_step::{End, Got, begin, read_start, step};
 
 // All rounds, to the one that ends the program. Answers how.
 // Stays: a `for` to a count that no run reaches. Each loop is proved to end, and nobody knows how long the input is: a
@@ -20,7 +20,7 @@ fn run<R: Read, W: Write, E: Write>(
     let mut out = [0u8; 65536];
     let mut run = begin();
     for _ in 0..u64::MAX {
-        let got = match reads(&run) {
+        let got = match read_start(&run) {
             Some(from) => Got::from(source.read(&mut piece[from..])),
             None => Got::Nothing,
         };

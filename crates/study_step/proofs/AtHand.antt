@@ -4,8 +4,8 @@ use Rattle.std.proofs.lemmas.List.{take-append-drop}
 use lib.Dec.{eqb}
 use lib.Seq.{sets-eq}
 use Rattle.log_writes.specs.Log.{Wrote}
-use Rattle.pieces.specs.declared.Study.{Study}
-use Rattle.study_step.specs.Step.{Running}
+use Rattle.study_pieces.specs.declared.Study.{Study}
+use Rattle.study_step.specs.Step.{ProgramState}
 use Rattle.study_text.proofs.Keeping.{take_min}
 
 none_more : (n : ℕ) → 0 + n ≡ n
@@ -37,7 +37,8 @@ drop_taken zero l = refl
 drop_taken (suc n) [] = refl
 drop_taken (suc n) (x ∷ l) = drop_taken n l
 
-pub kept_there : (piece : List ℕ) (held kept : ℕ) → kept ≡ min held (length piece) → Wrote piece 0 (take held piece) piece kept
+pub kept_there : (piece : List ℕ) (held kept : ℕ) → kept ≡ min held (length piece)
+    → Wrote piece 0 (take held piece) piece kept
 kept_there piece held kept e = record {
   next = simp length-take (omega arith);
   list = sym (sets-eq (take held piece) piece 0 (simp length-take (omega arith)) ∙ ap (λ (t : List ℕ). take held piece ++ t) (rw none_more (drop_taken held piece)) ∙ take-append-drop held piece);
@@ -49,5 +50,7 @@ kept_again piece held kept e = rw e (take_min held piece)
 
 -- the next round's start, part by part
 pub leaves : {s s' : Study} {log log' kept kept' : List ℕ} {ended : Bool} → s ≡ s' → log ≡ log' → kept ≡ kept'
-    → ◌≡◌ {A = Running} (record { study = s; log = log; kept = kept; ended = ended }) (record { study = s'; log = log'; kept = kept'; ended = ended })
+    → ◌≡◌ {A = ProgramState}
+    (record { study = s; log = log; kept = kept; ended = ended })
+    (record { study = s'; log = log'; kept = kept'; ended = ended })
 leaves s l k = rw (s, l, k)

@@ -3,18 +3,18 @@
 
 ghost use Rattle.std.specs.Prelude.{◌≡◌, ◌+◌, take, cond, Some, None};
 ghost use Rattle.log_writes.specs.Log.{Wrote};
-ghost use Rattle.study_step.specs.Step.{got_of, Steps, begun, stepped, played, cannot_read, running, reading};
-ghost use Rattle.study_step.specs.Step.{told_of, end_by, reads as wants};
+ghost use Rattle.study_step.specs.Step.{got_of, Steps, begun, stepped, played, cannot_read, program_state, reading};
+ghost use Rattle.study_step.specs.Step.{told_of, end_by, is_read_wanted};
 
 use log_writes::Writer;
-use pieces::{Study, advance};
 use std::io;
+use study_pieces::{Study, advance};
 use study_text::{Place, put_place};
 use world::refusal::Refusal;
 
 // A run of the study: how many bytes are kept at the piece's start, and whether the input ended.
 #[derive(Clone, Copy)]
-pub struct Run {
+pub struct ProgramRun {
     pub study: Study,
     pub held: usize,
     pub ended: bool,
@@ -58,19 +58,19 @@ pub struct Output {
 
 // A run of which nothing is read yet.
 // Stays: a function and no Default, as `world::empty` is.
-pub fn begin() -> Run
+pub fn begin() -> ProgramRun
     ensures { result ≡ begun }
 {
-    Run {
-        study: pieces::begin(),
+    ProgramRun {
+        study: study_pieces::begin(),
         held: 0,
         ended: false,
     }
 }
 
 // Where in the piece the next round's read puts its bytes, if it makes one.
-pub fn reads(run: &Run) -> Option<usize>
-    ensures { result ≡ cond (wants run.now.ended run.now.held) (Some run.now.held) None }
+pub fn read_start(run: &ProgramRun) -> Option<usize>
+    ensures { result ≡ cond (is_read_wanted run.now.ended run.now.held) (Some run.now.held) None }
 {
     if !run.ended & (run.held < 276) {
         Some(run.held)
@@ -108,7 +108,7 @@ fn end_of(over: bool) -> End
 
 // What can be done with the kept bytes and so many behind them.
 fn play(
-    run: &mut Run,
+    run: &mut ProgramRun,
     piece: &mut [u8; 16384],
     count: usize,
     log: &mut [u32; 2048],
@@ -129,14 +129,14 @@ fn play(
 
 // A round between its read and its write. Of the bytes that it is told of, no more count than there was room for.
 pub fn step(
-    run: &mut Run,
+    run: &mut ProgramRun,
     piece: &mut [u8; 16384],
     got: Got,
     log: &mut [u32; 2048],
     out: &mut [u8; 65536],
 ) -> Output
     ensures { Steps run.new result piece.old out.old piece.new log.new out.new
-        (stepped (running run.old log.old piece.old) (reading got run.old.held piece.old)) }
+        (stepped (program_state run.old log.old piece.old) (reading got run.old.held piece.old)) }
 {
     match got {
         Got::Bytes(count) => {

@@ -8,7 +8,7 @@ use native.Mathlib.Nat.{zero-min, min-zero, suc-min-suc}
 use lib.Seq.{sets-eq}
 use Rattle.std.specs.List.{copy_within}
 use Rattle.log_writes.specs.Log.{Wrote}
-use Rattle.study_text.specs.Text.{word, words_of}
+use Rattle.study_text.specs.Text.{word_of_bytes, words_of}
 
 -- ---- words
 
@@ -19,7 +19,7 @@ words_are [] = refl
 words_are (a ∷ []) = refl
 words_are (a ∷ b ∷ []) = refl
 words_are (a ∷ b ∷ c ∷ []) = refl
-words_are (a ∷ b ∷ c ∷ d ∷ bytes) = rw (one_more (length bytes)) (ap (λ (ws : List ℕ). word a b c d ∷ ws) (words_are bytes))
+words_are (a ∷ b ∷ c ∷ d ∷ bytes) = rw (one_more (length bytes)) (ap (λ (ws : List ℕ). word_of_bytes a b c d ∷ ws) (words_are bytes))
   where
     one_more : (n : ℕ) → suc (suc (suc (suc n))) / 4 ≡ suc (n / 4)
     one_more n = omega arith

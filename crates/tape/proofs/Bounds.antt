@@ -16,12 +16,12 @@ use Rattle.laws.proofs.Choices.{cases}
 use Rattle.world.proofs.Checks.{Passed, all, first_of, unless_has}
 use Rattle.std.specs.Prelude.{Result, Ok, Err}
 use Rattle.tape_records.specs.declared.Read.{Read}
-use Rattle.tape_records.specs.Answers.{Deed, answer}
-use Rattle.tape.specs.Tape.{Kind, kind_in, kinds, record_of, decoded}
+use Rattle.tape_records.specs.Answers.{CheckedRead, read_checked}
+use Rattle.tape.specs.Tape.{KindEntry, kind_in, kinds, decoded_by, decoded}
 use Rattle.tape_loads.specs.LoadRecords.{serves_count, line_record, stop_record, car_record, rider_record}
 use Rattle.tape_orders.specs.OrderRecords.{send_record, mode_record, manual_speed_record, door_command_record, hall_call_record, destination_record, enable_record, tick_record, start_record}
 use Rattle.layout.specs.Layout.{kind_of, fields_of}
-use Rattle.tape.specs.Facts.{InBounds, Facts}
+use Rattle.tape.specs.Facts.{InBounds, ReadsInBounds}
 
 -- a refusal that a tape's words bring: 1 to 4
 abbrev of_words : Refusal → Bool
@@ -37,11 +37,11 @@ module _ (ws : List ℕ) where
 
   -- the answer of a kind, where the head is of that kind
   infixr 5 ◌and◌
-  data AllFine : List Kind → Type 0 where
+  data AllFine : List KindEntry → Type 0 where
     end : AllFine []
-    ◌and◌ : {t : Kind} {ts : List Kind} → (kind_of (get_or ws 0 0) ≡ t.number → Fine (answer t.deed)) → AllFine ts → AllFine (t ∷ ts)
+    ◌and◌ : {t : KindEntry} {ts : List KindEntry} → (kind_of (get_or ws 0 0) ≡ t.number → Fine (read_checked t.deed)) → AllFine ts → AllFine (t ∷ ts)
 
-  kind_in_lem : (ts : List Kind) → AllFine ts → Fine (kind_in (kind_of (get_or ws 0 0)) ts)
+  kind_in_lem : (ts : List KindEntry) → AllFine ts → Fine (kind_in (kind_of (get_or ws 0 0)) ts)
   kind_in_lem [] end = refused_in UnknownKind refl
   kind_in_lem (t ∷ ts) (p and u) =
       cases Fine (eqb (kind_of (get_or ws 0 0)) t.number) (λ e. p (eqb-true (kind_of (get_or ws 0 0)) t.number e)) (λ e. kind_in_lem ts u)
@@ -50,8 +50,8 @@ module _ (ws : List ℕ) where
   enough : (used : ℕ) → 0 < used → ltb (length ws) used ≡ false → (0 < used) × (used ≤ length ws)
   enough used p e = (p, ltb-false (length ws) used e)
 
-  record_in : 0 < length ws → Fine (record_of (fields_of (get_or ws 0 0)) ws)
-  unfolding record_of line_record
+  record_in : 0 < length ws → Fine (decoded_by (fields_of (get_or ws 0 0)) ws)
+  unfolding decoded_by line_record
   record_in p =
       let h = fields_of (get_or ws 0 0) in
       kind_in_lem (kinds h ws)
@@ -70,11 +70,11 @@ module _ (ws : List ℕ) where
       and (λ e. deed (start_record h) refl (λ q. (omega arith, p, e)))
       and end)
     where
-      deed : (d : Deed) → all of_words d.checks ≡ true → (Passed d.checks → Fine (Ok d.done)) → Fine (answer d)
+      deed : (d : CheckedRead) → all of_words d.checks ≡ true → (Passed d.checks → Fine (Ok d.done)) → Fine (read_checked d)
       deed d e = unless_has Fine d.checks Err (Ok d.done) (λ r q. refused_in r (first_of of_words d.checks e q))
 
-pub in_bounds : Facts
-unfolding Facts decoded
+pub in_bounds : ReadsInBounds
+unfolding ReadsInBounds decoded
 in_bounds ws =
     cases (Fine ws) (eqb (length ws) 0) (λ e. refused_in ws CutShort refl)
     (λ e. let n : (length ws ≡ 0) → ⊥ = eqb-false (length ws) 0 e in record_in ws (omega arith))

@@ -1,4 +1,5 @@
-// Reads a tape (the input record stream): a record's fields, its length, and refusals 1 to 4. Nothing past the words given is read.
+// Reads a tape (the input record stream): a record's fields, its length, and refusals 1 to 4. Nothing past the words
+// given is read.
 #![tactic(auto)]
 
 pub mod facts; // claims about the definitions
@@ -11,13 +12,13 @@ use tape_records::Read;
 use world::refusal::Refusal;
 
 // The record that the words begin with.
-#[tactic(auto, unfolding(crate::specs::Tape::decoded, crate::specs::Tape::record_of))]
+#[tactic(auto, unfolding(crate::specs::Tape::decoded, crate::specs::Tape::decoded_by))]
 pub fn decode(words: &[u32]) -> Result<Read, Refusal>
     ensures { result ≡ decoded words.now }
 {
     let head = fields_of(*words.first().ok_or(Refusal::CutShort)?);
-    // Stays: a match on the number, which is read here alone and stands beside its decoder's name. An enum of the kinds would list the thirteen
-    // names three times: in itself, in its TryFrom and in this match.
+    // Stays: a match on the number, which is read here alone and stands beside its decoder's name. An enum of the
+    // kinds would list the thirteen names three times: in itself, in its TryFrom and in this match.
     match head.kind {
         1 => tape_loads::decode_line(head, words),
         2 => tape_loads::decode_stop(head, words),

@@ -6,7 +6,7 @@ use mathlib.Core.Logic.{⊎_elim}
 use native.Mathlib.Nat.{eq-or-lt_of_le, le_of_suc-le-suc}
 use borrow.Author.Tests.{lt-ltb, ltb-false}
 use Rattle.laws.proofs.Bools.{yes}
-use Rattle.tape_loads.specs.LoadRecords.{serves_count, serves_outside}
+use Rattle.tape_loads.specs.LoadRecords.{serves_count, has_stop_outside}
 
 small : (a b : Bool) → (a && not b) ≡ false → b ≡ false → a ≡ false
 small true true h e = yes e
@@ -22,15 +22,17 @@ count_small v h = go (eqb v 65535) refl
     go false e = ltb-false 64 v (small (ltb 64 v) (eqb v 65535) h e)
 
 -- one that is no stop's number makes the list outside
-outside_at : (ws : List ℕ) (n i : ℕ) → i < n → 63 < get_or ws (5 + i) 0 → serves_outside ws n ≡ true
-unfolding serves_outside
+outside_at : (ws : List ℕ) (n i : ℕ) → i < n → 63 < get_or ws (5 + i) 0 → has_stop_outside ws n ≡ true
+unfolding has_stop_outside
 outside_at ws zero i h k = absurd (omega arith)
 outside_at ws (suc n) i h k =
-    ⊎_elim (λ q. rw (← q, lt-ltb 63 (get_or ws (5 + i) 0) k, or-true (serves_outside ws i))) (λ l. rw (outside_at ws n i l k)) (eq-or-lt_of_le (le_of_suc-le-suc h))
+    ⊎_elim (λ q. rw (← q, lt-ltb 63 (get_or ws (5 + i) 0) k, or-true (has_stop_outside ws i))) (λ l. rw (outside_at ws n i l k)) (eq-or-lt_of_le (le_of_suc-le-suc h))
 
-pub served : (ws : List ℕ) (count i : ℕ) → i < length (take (5 + count - 5) (drop 5 ws)) → get_or (take (5 + count - 5) (drop 5 ws)) i 0 ≡ get_or ws (5 + i) 0
+pub served : (ws : List ℕ) (count i : ℕ) → i < length (take (5 + count - 5) (drop 5 ws))
+    → get_or (take (5 + count - 5) (drop 5 ws)) i 0 ≡ get_or ws (5 + i) 0
 served ws count i h =
     get_or-take (5 + count - 5) (drop 5 ws) i 0 (omega (arith, h, length-take (5 + count - 5) (drop 5 ws))) ∙ get_or-drop 5 ws i 0
 
-pub served_outside : (ws : List ℕ) (count i : ℕ) → i < length (take (5 + count - 5) (drop 5 ws)) → 63 < get_or (take (5 + count - 5) (drop 5 ws)) i 0 → serves_outside ws count ≡ true
+pub served_outside : (ws : List ℕ) (count i : ℕ) → i < length (take (5 + count - 5) (drop 5 ws))
+    → 63 < get_or (take (5 + count - 5) (drop 5 ws)) i 0 → has_stop_outside ws count ≡ true
 served_outside ws count i h k = outside_at ws count i (omega (arith, h, length-take (5 + count - 5) (drop 5 ws))) (rw (← served ws count i h) k)

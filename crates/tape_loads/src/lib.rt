@@ -3,25 +3,25 @@
 
 ghost use Rattle.std.specs.Prelude.{IfOk, ◌≡◌, ◌≤◌, ◌+◌, ◌&&◌, ◌||◌, not, cond, ltb, eqb, length, Ok, Err};
 ghost use Rattle.world.specs.declared.refusal.Refusal.TheVariants.{FieldOutside};
-ghost use Rattle.tape_records.specs.Answers.{answer, not_stop, not_car};
-ghost use Rattle.tape_loads.specs.LoadRecords.{serves_count, serves_outside, serves_to};
-ghost use Rattle.tape_loads.specs.LoadRecords.{line_fields_outside, line_kind_of, line_record};
-ghost use Rattle.tape_loads.specs.LoadRecords.{stop_record, motion_at, motion_outside, car_record};
-ghost use Rattle.tape_loads.specs.LoadRecords.{rider_body, phase_car_outside, rider_phase, rider_record};
+ghost use Rattle.tape_records.specs.Answers.{read_checked, is_not_stop, is_not_car};
+ghost use Rattle.tape_loads.specs.LoadRecords.{serves_count, has_stop_outside, serves_to};
+ghost use Rattle.tape_loads.specs.LoadRecords.{has_line_field_outside, line_kind_of, line_record};
+ghost use Rattle.tape_loads.specs.LoadRecords.{stop_record, motion_at, has_motion_outside, car_record};
+ghost use Rattle.tape_loads.specs.LoadRecords.{rider_body, is_phase_car_outside, rider_phase, rider_record};
 ghost use Rattle.tape_loads.specs.LoadRecords.{car_option, stop_option};
 
-use fields::body::{
-    float_at, outside_above_zero, outside_from_zero, outside_size, raw_zero_at, word_at,
-};
 use layout::Fields;
-use tape_records::{Found, Read, Record, stop_of};
+use tape_fields::body::{
+    float_at, is_outside_above_zero, is_outside_from_zero, is_outside_size, is_raw_zero_at, word_at,
+};
+use tape_records::{Found, Read, Record, stop_in_range};
 use world::refusal::{Refusal, refuse_if};
 use world::{CarPlan, Line, LineKind, Motion, Rider, RiderPhase, Serves, Table};
 
 // How many served stops follow: 65,535 stands for no list.
 #[tactic(auto, unfolding(crate::specs::LoadRecords::serves_count))]
 fn serves_count(v: u32) -> Result<usize, Refusal>
-    ensures answer { result ≡ cond (ltb 64 v && not (eqb v 65535)) (Err FieldOutside) (Ok (serves_count v)) }
+    ensures read_checked { result ≡ cond (ltb 64 v && not (eqb v 65535)) (Err FieldOutside) (Ok (serves_count v)) }
     ensures few { IfOk result (λ count. count ≤ 64) }
 {
     match v {
@@ -32,30 +32,32 @@ fn serves_count(v: u32) -> Result<usize, Refusal>
 }
 
 // The first `count` served words in order as stops, and zeros; refused where one is no stop's number.
-// Stays: the array alone, by `enumerate`. As a Table, pushed into, each push would answer an Option that its bound rules out.
-#[tactic(auto, using(crate::proofs::Serves::served), unfolding(crate::specs::LoadRecords::serves_outside, crate::specs::LoadRecords::serves_to))]
+// Stays: the array alone, by `enumerate`. As a Table, pushed into, each push would answer an Option that its bound
+// rules out.
+#[tactic(auto, using(crate::proofs::Serves::served), unfolding(crate::specs::LoadRecords::has_stop_outside, crate::specs::LoadRecords::serves_to))]
 fn serves_to(words: &[u32], count: usize) -> Result<[u8; 64], Refusal>
     requires { (count ≤ 64) × (5 + count ≤ length words.now) }
-    ensures { result ≡ cond (serves_outside words.now count) (Err FieldOutside) (Ok (serves_to words.now count)) }
+    ensures { result ≡ cond (has_stop_outside words.now count) (Err FieldOutside) (Ok (serves_to words.now count)) }
 {
     let mut serves = [0u8; 64];
     for (i, word) in words[5..5 + count].iter().enumerate() {
-        serves[i] = stop_of(*word)?;
+        serves[i] = stop_in_range(*word)?;
     }
     Ok(serves)
 }
 
-// Stays: here and below head and words go side by side, as the paper has a head and a body; seven of the thirteen kinds have a head alone.
+// Stays: here and below head and words go side by side, as the paper has a head and a body; seven of the thirteen
+// kinds have a head alone.
 
 // The kind of a line: linear, with raw zero words, or a loop of the two floats.
-#[tactic(auto, unfolding(crate::specs::LoadRecords::line_fields_outside, crate::specs::LoadRecords::line_kind_of))]
+#[tactic(auto, unfolding(crate::specs::LoadRecords::has_line_field_outside, crate::specs::LoadRecords::line_kind_of))]
 fn line_kind(head: Fields, words: &[u32]) -> Result<LineKind, Refusal>
     ensures { result ≡
-        cond (line_fields_outside head words.now) (Err FieldOutside) (Ok (line_kind_of head words.now)) }
+        cond (has_line_field_outside head words.now) (Err FieldOutside) (Ok (line_kind_of head words.now)) }
 {
     refuse_if(head.n > 7, Refusal::FieldOutside)?;
     match head.s {
-        0 if raw_zero_at(words, 1) && raw_zero_at(words, 3) => Ok(LineKind::Linear),
+        0 if is_raw_zero_at(words, 1) && is_raw_zero_at(words, 3) => Ok(LineKind::Linear),
         1 => Ok(LineKind::Loop {
             circumference: float_at(words, 1),
             min_headway: float_at(words, 3),
@@ -64,9 +66,9 @@ fn line_kind(head: Fields, words: &[u32]) -> Result<LineKind, Refusal>
     }
 }
 
-#[tactic(auto, unfolding(crate::specs::LoadRecords::line_fields_outside, crate::specs::LoadRecords::line_floats_outside, crate::specs::LoadRecords::line_kind_of, crate::specs::LoadRecords::line_record))]
+#[tactic(auto, unfolding(crate::specs::LoadRecords::has_line_field_outside, crate::specs::LoadRecords::has_line_float_outside, crate::specs::LoadRecords::line_kind_of, crate::specs::LoadRecords::line_record))]
 pub fn decode_line(head: Fields, words: &[u32]) -> Result<Read, Refusal>
-    ensures { result ≡ answer (line_record head words.now) }
+    ensures { result ≡ read_checked (line_record head words.now) }
 {
     let count = serves_count(head.v)?;
     refuse_if(words.len() < 5 + count, Refusal::CutShort)?;
@@ -77,8 +79,8 @@ pub fn decode_line(head: Fields, words: &[u32]) -> Result<Read, Refusal>
         min_headway,
     } = kind
     {
-        let float_outside = outside_above_zero(circumference, 1000000.0)
-            | outside_from_zero(min_headway, 1000000.0);
+        let float_outside = is_outside_above_zero(circumference, 1000000.0)
+            | is_outside_from_zero(min_headway, 1000000.0);
         refuse_if(float_outside, Refusal::FloatOutside)?;
     }
     let stops = Table { items, count };
@@ -97,13 +99,13 @@ pub fn decode_line(head: Fields, words: &[u32]) -> Result<Read, Refusal>
 }
 
 pub fn decode_stop(head: Fields, words: &[u32]) -> Result<Read, Refusal>
-    ensures { result ≡ answer (stop_record head words.now) }
+    ensures { result ≡ read_checked (stop_record head words.now) }
 {
     refuse_if(words.len() < 3, Refusal::CutShort)?;
     refuse_if((head.n != 0) | (head.v != 0), Refusal::FieldOutside)?;
-    let number = stop_of(u32::from(head.s))?;
+    let number = stop_in_range(u32::from(head.s))?;
     let position = float_at(words, 1);
-    refuse_if(outside_size(position, 1000000.0), Refusal::FloatOutside)?;
+    refuse_if(is_outside_size(position, 1000000.0), Refusal::FloatOutside)?;
     let found = Found::Change(Record::Stop { number, position });
     Ok(Read { found, used: 3 })
 }
@@ -121,24 +123,24 @@ fn motion_at(words: &[u32]) -> Motion
     }
 }
 
-fn motion_outside(motion: Motion) -> bool
-    ensures { result ≡ motion_outside motion }
+fn has_motion_outside(motion: Motion) -> bool
+    ensures { result ≡ has_motion_outside motion }
 {
-    outside_size(motion.position, 1000000.0)
-        | outside_size(motion.velocity, 1000.0)
-        | outside_from_zero(motion.max_speed, 1000.0)
-        | outside_from_zero(motion.acceleration, 1000.0)
-        | outside_from_zero(motion.deceleration, 1000.0)
-        | outside_from_zero(motion.inspection_speed_factor, 10.0)
+    is_outside_size(motion.position, 1000000.0)
+        | is_outside_size(motion.velocity, 1000.0)
+        | is_outside_from_zero(motion.max_speed, 1000.0)
+        | is_outside_from_zero(motion.acceleration, 1000.0)
+        | is_outside_from_zero(motion.deceleration, 1000.0)
+        | is_outside_from_zero(motion.inspection_speed_factor, 10.0)
 }
 
 pub fn decode_car(head: Fields, words: &[u32]) -> Result<Read, Refusal>
-    ensures { result ≡ answer (car_record head words.now) }
+    ensures { result ≡ read_checked (car_record head words.now) }
 {
     refuse_if(words.len() < 15, Refusal::CutShort)?;
     refuse_if((head.s > 7) | (head.v != 0), Refusal::FieldOutside)?;
     let motion = motion_at(words);
-    refuse_if(motion_outside(motion), Refusal::FloatOutside)?;
+    refuse_if(has_motion_outside(motion), Refusal::FloatOutside)?;
     let plan = CarPlan {
         line: head.s,
         motion,
@@ -153,7 +155,8 @@ pub fn decode_car(head: Fields, words: &[u32]) -> Result<Read, Refusal>
 }
 
 // The body word of a rider: bits 7-0 phase, 15-8 phase's car, 23-16 car aboard, top bits.
-// Stays: a struct. Where the four bytes go into `decode_rider` as an array's items, the search for its promise stops at its limit of case splits.
+// Stays: a struct. Where the four bytes go into `decode_rider` as an array's items, the search for its promise stops
+// at its limit of case splits.
 #[derive(Clone, Copy)]
 struct RiderBody {
     phase: u8,
@@ -177,7 +180,7 @@ fn rider_body(word: u32) -> RiderBody
 // The phase of a rider by its number; phases 1 to 3 have a car, the others 255.
 fn rider_phase(phase: u8, car: u8) -> Result<RiderPhase, Refusal>
     ensures { result ≡
-        cond (ltb 7 phase || phase_car_outside phase car) (Err FieldOutside) (Ok (rider_phase phase car)) }
+        cond (ltb 7 phase || is_phase_car_outside phase car) (Err FieldOutside) (Ok (rider_phase phase car)) }
 {
     match (phase, car) {
         (0, 255) => Ok(RiderPhase::Waiting),
@@ -194,7 +197,7 @@ fn rider_phase(phase: u8, car: u8) -> Result<RiderPhase, Refusal>
 
 // A car, or 255 for none.
 fn car_option(car: u8) -> Result<Option<u8>, Refusal>
-    ensures { result ≡ cond (not_car car && not (eqb car 255)) (Err FieldOutside) (Ok (car_option car)) }
+    ensures { result ≡ cond (is_not_car car && not (eqb car 255)) (Err FieldOutside) (Ok (car_option car)) }
 {
     match car {
         0..=15 => Ok(Some(car)),
@@ -205,16 +208,16 @@ fn car_option(car: u8) -> Result<Option<u8>, Refusal>
 
 // A stop, or 65,535 for none.
 fn stop_option(stop: u32) -> Result<Option<u8>, Refusal>
-    ensures { result ≡ cond (not_stop stop && not (eqb stop 65535)) (Err FieldOutside) (Ok (stop_option stop)) }
+    ensures { result ≡ cond (is_not_stop stop && not (eqb stop 65535)) (Err FieldOutside) (Ok (stop_option stop)) }
 {
     match stop {
         65535 => Ok(None),
-        _ => Ok(Some(stop_of(stop)?)),
+        _ => Ok(Some(stop_in_range(stop)?)),
     }
 }
 
 pub fn decode_rider(head: Fields, words: &[u32]) -> Result<Read, Refusal>
-    ensures { result ≡ answer (rider_record head words.now) }
+    ensures { result ≡ read_checked (rider_record head words.now) }
 {
     refuse_if(words.len() < 2, Refusal::CutShort)?;
     let body = rider_body(word_at(words, 1));

@@ -3,7 +3,7 @@
 
 ghost use Rattle.std.specs.Prelude.{◌≡◌, cond, Ok, Err};
 ghost use Rattle.world.specs.declared.refusal.Refusal.TheVariants.{FieldOutside};
-ghost use Rattle.tape_records.specs.Answers.{not_stop};
+ghost use Rattle.tape_records.specs.Answers.{is_not_stop};
 
 use door::DoorCommand;
 use world::refusal::Refusal;
@@ -28,8 +28,8 @@ pub enum Record {
 }
 
 // The stop of a number.
-pub fn stop_of(number: u32) -> Result<u8, Refusal>
-    ensures { result ≡ cond (not_stop number) (Err FieldOutside) (Ok number) }
+pub fn stop_in_range(number: u32) -> Result<u8, Refusal>
+    ensures { result ≡ cond (is_not_stop number) (Err FieldOutside) (Ok number) }
 {
     match number {
         0..=63 => Ok(number as u8),

@@ -15,9 +15,9 @@ use Rattle.float.specs.Float.{epsilon}
 use Rattle.laws.proofs.Bools.{no, yes}
 use Rattle.float.proofs.Rounding.{Plus, plus_round, neg_round}
 use Rattle.float.proofs.Sides.{truly, flip, astride}
-use Rattle.sorted.specs.Sorted.{position_before}
-use Rattle.sorted.proofs.Order.{not_both}
-use Rattle.movement_system.proofs.Thresholds.{le_through}
+use Rattle.stops_sort.specs.Sorted.{is_position_before}
+use Rattle.stops_sort.proofs.Order.{not_both}
+use Rattle.move_turn.proofs.Thresholds.{le_through}
 
 -- ---- two floats with no sign
 
@@ -122,7 +122,7 @@ all_below (inf false) q h = refl
 all_below (fin s m e) q h = refl
 
 through : (p q t : Float) → lt p q ≡ true → le q t ≡ true → le p t ≡ true
-unfolding position_before
+unfolding is_position_before
 through p q t h = le_through p q t (not_both p q (rw h))
 
 module _ (n : ℕ) (d : ℤ) (p : Float) where
@@ -142,6 +142,7 @@ module _ (n : ℕ) (d : ℤ) (p : Float) where
   law (fin true m e) (fin false k g) h q = through p _ _ q (mixed m e k g n d)
   law (fin true m e) (fin true k g) h q = through p _ _ q (under m e k g n d (ltb-true _ _ h))
 
-pub ends_apart : (new old p : Float) → lt new old ≡ true → lt p (sub binary64 new epsilon) ≡ true → le p (add binary64 old epsilon) ≡ true
+pub ends_apart : (new old p : Float) → lt new old ≡ true → lt p (sub binary64 new epsilon) ≡ true
+    → le p (add binary64 old epsilon) ≡ true
 unfolding of_bits
 ends_apart new old p = law _ _ p new old

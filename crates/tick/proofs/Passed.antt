@@ -10,20 +10,20 @@ use Rattle.float.specs.Float as Float
 use Rattle.float.specs.Float.{epsilon}
 use Rattle.laws.proofs.Bools.{and_left}
 use Rattle.world.specs.declared.Motion.{Motion}
-use Rattle.world.specs.World.{stop_at}
+use Rattle.world.specs.World.{stop_position}
 use Rattle.world.specs.declared.LineKind.{LineKind}
 use Rattle.world.specs.declared.LineKind.TheVariants.{Linear, Loop}
 use Rattle.std.specs.declared.option.Option.{Option}
 use Rattle.std.specs.declared.option.Option.TheVariants.{None, Some}
-use Rattle.sorted.specs.Sorted.{sorted_stops}
-use Rattle.trips.specs.Spans.{range, range_between, seam, span_of, manual_span}
-use Rattle.trips.specs.declared.span.Span.{Span}
-use Rattle.trips.specs.declared.Trip.{Trip}
-use Rattle.trips.specs.declared.Trip.TheVariants.{Rests, Drives, GoesTo, Repositions}
-use Rattle.movement_system.specs.Passing.{start_of, end_of, between, emit_range, lo_threshold, passed}
-use Rattle.movement_system.specs.Movement.{passed_by}
-use Rattle.movement_system.proofs.Counting.{count_grows, start_most, end_most}
-use Rattle.movement_system.proofs.Emitting.{without_most}
+use Rattle.stops_sort.specs.Sorted.{sorted_stops}
+use Rattle.move_trip.specs.Spans.{range, range_between, seam, span_of, manual_span}
+use Rattle.move_trip.specs.declared.span.Span.{Span}
+use Rattle.move_trip.specs.declared.Trip.{Trip}
+use Rattle.move_trip.specs.declared.Trip.TheVariants.{Rests, Drives, GoesTo, Repositions}
+use Rattle.move_turn.specs.Passing.{start_of, end_of, between, emit_range, lo_threshold, passed}
+use Rattle.move_turn.specs.Movement.{passed_by}
+use Rattle.move_turn.proofs.Counting.{count_grows, start_most, end_most}
+use Rattle.move_turn.proofs.Emitting.{without_most}
 use Rattle.laws.proofs.Choices.{both, cases}
 use Rattle.tick.proofs.Apart.{ends_apart}
 
@@ -48,7 +48,7 @@ module _ (stops : List Float) (n : ℕ) (target : Option ℕ) where
   -- what is passed after the seam ends where what is passed before it begins
   seam_apart : (old new : Float) → lt new old ≡ true → end_of stops ss (sub binary64 new epsilon) ≤ start_of stops ss (add binary64 old epsilon)
   unfolding end_of start_of
-  seam_apart old new h = count_grows _ _ (λ s. ends_apart new old (stop_at stops s) h) ss
+  seam_apart old new h = count_grows _ _ (λ s. ends_apart new old (stop_position stops s) h) ss
 
   abbrev Fits : Span → Type 0
   Fits span = length (passed span stops ss target) ≤ n
@@ -81,7 +81,8 @@ module _ (stops : List Float) (n : ℕ) (target : Option ℕ) where
       cases Fits (lt new old && le Float.zero velocity)
       (λ e. seam_fits old circumference new (and_left (lt new old) (le Float.zero velocity) e)) (λ e. ranges_fit old new)
 
-pub passed_fits : (trip : Trip) (kind : LineKind) (stops : List Float) (n : ℕ) (old new : Motion) → length (passed_by trip kind stops n old new) ≤ n
+pub passed_fits : (trip : Trip) (kind : LineKind) (stops : List Float) (n : ℕ) (old new : Motion)
+    → length (passed_by trip kind stops n old new) ≤ n
 passed_fits Rests kind stops n old new = span_fits stops n None kind old.position new.position
 passed_fits Drives kind stops n old new = manual_fits stops n None kind old.position new.position new.velocity
 passed_fits (GoesTo s) kind stops n old new = span_fits stops n (Some s) kind old.position new.position

@@ -11,10 +11,10 @@ use lib.ListN.{length, get_or, set, length-append}
 use lib.Seq.{get_or-set_other}
 use Rattle.world.specs.World.{car_at, no_car}
 use Rattle.world.specs.declared.World.{World}
-use Rattle.steps.specs.Steps.{Step, Run, run_to, not_opened}
+use Rattle.turn.specs.Steps.{Turn, CarsRun, run_to, not_opened}
 use Rattle.std.specs.declared.option.Option.{Option}
-use Rattle.steps.specs.declared.JustOpened.{JustOpened}
-use Rattle.steps.proofs.Cars.{by_turns, kept}
+use Rattle.turn.specs.declared.JustOpened.{JustOpened}
+use Rattle.turn.proofs.Cars.{by_turns, kept}
 use Rattle.laws.specs.Counting.{how_many}
 use Rattle.tick.specs.Counters.{moves_in, moves_of, sum_to}
 use Rattle.tick.proofs.Turns.{ones, Fair, moves_append}
@@ -47,18 +47,18 @@ module _ (os : List (Option JustOpened)) (i : ℕ) (o : Option JustOpened) where
 
 -- ---- a run of k cars from w: its words, and its counters
 
-pub record Told (f : World → ℕ → Step) (w : World) (room most k : ℕ) (r : Run) : Type 0 where
+pub record RunCounts (f : World → ℕ → Turn) (w : World) (room most k : ℕ) (r : CarsRun) : Type 0 where
   pub size : length r.words + 2 * stops_in r.opened k ≤ k * room
-  pub told : moves_in r.words ≡ sum_to (moves_of f w) k
+  pub written : moves_in r.words ≡ sum_to (moves_of f w) k
   pub few : sum_to (moves_of f w) k ≤ k * most
 
-pub record Grown (f : World → ℕ → Step) (w : World) (k : ℕ) (v : World) : Type 0 where
+pub record Grown (f : World → ℕ → Turn) (w : World) (k : ℕ) (v : World) : Type 0 where
   pub total : v.total_moves ≡ w.total_moves + sum_to (moves_of f w) k
   pub done : (j : ℕ) → j < k → (car_at v.cars.items j).move_count ≡ (car_at w.cars.items j).move_count + moves_of f w j
   pub rest : (j : ℕ) → k ≤ j → car_at v.cars.items j ≡ car_at w.cars.items j
 
 module _
-    (f : World → ℕ → Step)
+    (f : World → ℕ → Turn)
     (w : World)
     (room most : ℕ)
     (fair : (v : World) (i : ℕ) → v.stops.count ≡ w.stops.count → Fair room most v.total_moves (car_at v.cars.items i) (f v i))
@@ -66,17 +66,17 @@ module _
     turn_fair : (k : ℕ) → Fair room most (run_to f w k).world.total_moves (car_at (run_to f w k).world.cars.items k) (f (run_to f w k).world k)
     turn_fair k = fair (run_to f w k).world k (kept f w (λ (v : World). v.stops.count) (λ v i s. refl) k)
 
-    pub run_told : (k : ℕ) → Told f w room most k (run_to f w k)
+    pub run_told : (k : ℕ) → RunCounts f w room most k (run_to f w k)
     unfolding run_to stops_in sum_to how_many moves_of
     run_told n =
-        by_turns f w (Told f w room most) n (record { size = omega arith; told = refl; few = omega arith })
+        by_turns f w (RunCounts f w room most) n (record { size = omega arith; written = refl; few = omega arith })
         (λ k l t.
-        let r : Run = run_to f w k in
-        let s : Step = f r.world k in
+        let r : CarsRun = run_to f w k in
+        let s : Turn = f r.world k in
         let h : Fair room most r.world.total_moves (car_at r.world.cars.items k) s = turn_fair k in
         record {
           size = omega (arith, length-append r.words s.words, t.size, h.size, stops_set r.opened k s.opened);
-          told = moves_append r.words s.words ∙ omega (arith, t.told);
+          written = moves_append r.words s.words ∙ omega (arith, t.written);
           few = omega (arith, t.few, h.few);
         })
         n (omega arith)
@@ -101,7 +101,7 @@ module _
             v : World
             v = (run_to f w k).world
 
-            s : Step
+            s : Turn
             s = f v k
 
             h : Fair room most v.total_moves (car_at v.cars.items k) s

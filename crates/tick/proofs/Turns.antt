@@ -1,4 +1,4 @@
--- A car's turn in either system, by its cases: how many words it tells, and how its counters grow. Assumes nothing.
+-- A car's turn in either system, by its cases: how many words it writes, and how its counters grow. Assumes nothing.
 use mathlib.Core.Path.{◌≡◌, refl, ap, ◌∙◌}
 use mathlib.Core.Bool.{Bool, true, false, ◌&&◌, cond, beq}
 use mathlib.Core.List.{List, [], ◌∷◌, ◌++◌}
@@ -13,27 +13,27 @@ use Rattle.world.specs.declared.Car.{Car}
 use Rattle.door.specs.declared.DoorCommand.{DoorCommand}
 use Rattle.world.specs.declared.LineKind.{LineKind}
 use Rattle.std.specs.declared.option.Option.{Option}
-use Rattle.steps.specs.declared.JustOpened.{JustOpened}
+use Rattle.turn.specs.declared.JustOpened.{JustOpened}
 use Rattle.std.specs.declared.option.Option.TheVariants.{None, Some}
-use Rattle.log_words.specs.Words.{word, word_of, code_of, ticks_of}
+use Rattle.log_words.specs.Words.{word, word_of, code_of, hold_ticks_of}
 use Rattle.laws.specs.Numbers.{bit}
 use Rattle.log_words.specs.declared.Event.TheVariants.{ElevatorIdle}
-use Rattle.read_back.proofs.Reading.{kind_word}
-use Rattle.steps.specs.Steps.{line_of, both_lit, unlit, update_indicators, Step, not_opened}
+use Rattle.log_read_back.proofs.Reading.{kind_word}
+use Rattle.turn.specs.Steps.{line_of, both_lit, unlit, update_indicators, Turn, not_opened}
 use Rattle.laws.specs.Numbers.{plus}
 use Rattle.world.specs.declared.Lamps.{Lamps}
-use Rattle.trips.specs.Spans.{moving_up}
-use Rattle.trips.specs.declared.Trip.{Trip}
-use Rattle.trips.specs.declared.Trip.TheVariants.{GoesTo, Repositions}
-use Rattle.movement_system.specs.Passing.{passing_words}
-use Rattle.movement_system.specs.Movement.{passed_by, passes, arrives, move_of}
-use Rattle.movement_system.proofs.Cases.{move_cases}
-use Rattle.door_commands.specs.Commands.{queued, try_apply_command, applied_words, work_to, work_words_to, process_door_commands, command_words}
-use Rattle.doors_system.specs.Doors.{door_turn, step_by, turn_on, door_of}
-use Rattle.door_ticks.specs.Ticks.{Turn, rested, opened_at, departed_from, door_by, after}
-use Rattle.door_ticks.proofs.Cases.{door_cases}
-use Rattle.door_commands.proofs.Working.{only}
-use Rattle.door_commands.specs.declared.Doorway.{Doorway}
+use Rattle.move_trip.specs.Spans.{moving_up}
+use Rattle.move_trip.specs.declared.Trip.{Trip}
+use Rattle.move_trip.specs.declared.Trip.TheVariants.{GoesTo, Repositions}
+use Rattle.move_turn.specs.Passing.{passing_words}
+use Rattle.move_turn.specs.Movement.{passed_by, passing_turn, arrival_turn, turn_of_move}
+use Rattle.move_turn.proofs.Cases.{move_cases}
+use Rattle.doors_commands.specs.Commands.{queued, try_apply_command, applied_words, processed_to, processed_words_to, process_door_commands, command_words}
+use Rattle.doors_turn.specs.Doors.{door_turn, in_world, turn_on, turn_of_door}
+use Rattle.doors_tick.specs.Ticks.{DoorTurn, with_phase_and_door, just_opened_at, departed_words, door_by, after_words}
+use Rattle.doors_tick.proofs.Cases.{door_cases}
+use Rattle.doors_commands.proofs.Working.{only}
+use Rattle.doors_commands.specs.declared.Doorway.{Doorway}
 use Rattle.laws.specs.Counting.{how_many}
 use Rattle.laws.proofs.Counting.{how_many_append}
 use Rattle.tick.specs.Counters.{is_move, is_move_word, moves_in}
@@ -88,7 +88,7 @@ unfolding plus
 plus_plain a b h k = omega arith
 
 -- a turn of car c: its words fit with those of the calls that it may clear, and its moves are counted
-pub record Fair (room most before : ℕ) (c : Car) (s : Step) : Type 0 where
+pub record Fair (room most before : ℕ) (c : Car) (s : Turn) : Type 0 where
   pub size : length s.words + 2 * ones s.opened ≤ room
   pub few : moves_in s.words ≤ most
   pub car : c.move_count < 2 ^ 50 → s.car.move_count ≡ c.move_count + moves_in s.words
@@ -115,10 +115,10 @@ module _ (w : World) (i : ℕ) where
   abbrev c : Car
   c = car_at w.cars.items i
 
-  abbrev Moves : Step → Type 0
+  abbrev Moves : Turn → Type 0
   Moves s = Fair (min w.stops.count 64 + 3) 64 w.total_moves c s
 
-  pass_fair : (trip : Trip) (kind : LineKind) (m : Motion) → Moves (passes w i trip kind m)
+  pass_fair : (trip : Trip) (kind : LineKind) (m : Motion) → Moves (passing_turn w i trip kind m)
   pass_fair trip kind m = record {
     size = omega (arith, fits, passing_size i up ss);
     few = omega (arith, fits, passing_moves i up ss);
@@ -136,7 +136,7 @@ module _ (w : World) (i : ℕ) where
       fits = passed_fits trip kind w.stops.items (min w.stops.count 64) c.motion m
 
   -- a turn of one move
-  one_fair : (s : Step) → s.opened ≡ not_opened → length s.words ≤ 3 → moves_in s.words ≡ 1 → s.car.move_count ≡ plus c.move_count 1
+  one_fair : (s : Turn) → s.opened ≡ not_opened → length s.words ≤ 3 → moves_in s.words ≡ 1 → s.car.move_count ≡ plus c.move_count 1
       → s.total ≡ plus w.total_moves 1 → Moves s
   one_fair s o h m p q = record {
     size = rw o (omega arith);
@@ -145,18 +145,19 @@ module _ (w : World) (i : ℕ) where
     total = λ l. q ∙ plus_plain w.total_moves 1 l (omega arith) ∙ omega arith;
   }
 
-  arrived_fair : (s : ℕ) (kind : LineKind) (m : Motion) (lamps : Lamps) → Moves (arrives w i (GoesTo s) kind m lamps)
+  arrived_fair : (s : ℕ) (kind : LineKind) (m : Motion) (lamps : Lamps) → Moves (arrival_turn w i (GoesTo s) kind m lamps)
   arrived_fair s kind m lamps =
       let q : Quiet 1 (update_indicators i c.lamps lamps) = lamps_quiet i c.lamps lamps in
-      one_fair (arrives w i (GoesTo s) kind m lamps) refl (omega (arith, q.size)) (one_move 2 i s 0 refl q) refl refl
+      one_fair (arrival_turn w i (GoesTo s) kind m lamps) refl (omega (arith, q.size)) (one_move 2 i s 0 refl q) refl refl
 
-  repositioned_fair : (s : ℕ) (kind : LineKind) (m : Motion) (lamps : Lamps) → Moves (arrives w i (Repositions s) kind m lamps)
+  repositioned_fair : (s : ℕ) (kind : LineKind) (m : Motion) (lamps : Lamps) → Moves (arrival_turn w i (Repositions s) kind m lamps)
   repositioned_fair s kind m lamps =
       let q : Quiet 2 (word_of (ElevatorIdle i s) ∷ update_indicators i c.lamps both_lit) =
       quiet_join (quiet_one 4 i s 0 refl) (lamps_quiet i c.lamps both_lit) in
-      one_fair (arrives w i (Repositions s) kind m lamps) refl (omega (arith, q.size)) (one_move 3 i s 0 refl q) refl refl
+      one_fair (arrival_turn w i (Repositions s) kind m lamps) refl (omega (arith, q.size)) (one_move 3 i s 0 refl q) refl refl
 
-pub move_fair : (dt : Float) (w : World) (i : ℕ) → Fair (min w.stops.count 64 + 3) 64 w.total_moves (car_at w.cars.items i) (move_of dt w i)
+pub move_fair : (dt : Float) (w : World) (i : ℕ)
+    → Fair (min w.stops.count 64 + 3) 64 w.total_moves (car_at w.cars.items i) (turn_of_move dt w i)
 unfolding how_many
 move_fair dt w i =
     move_cases (Moves w i) w i (record { size = omega arith; few = omega arith; car = λ l. omega arith; total = λ l. omega arith }) (λ e. pass_fair w i)
@@ -166,47 +167,47 @@ move_fair dt w i =
 
 applied_quiet : (i : ℕ) (q : DoorCommand) (t : Option Doorway) → Quiet 1 (applied_words i q t)
 applied_quiet i q None = quiet_more (omega arith) quiet_none
-applied_quiet i q (Some d) = quiet_one 10 i (code_of q) (ticks_of q) refl
+applied_quiet i q (Some d) = quiet_one 10 i (code_of q) (hold_ticks_of q) refl
 
 module _ (c : Car) (at_stop traversing : Bool) (i : ℕ) where
-  works_quiet : (n : ℕ) → Quiet n (work_words_to c at_stop traversing i n)
-  unfolding work_words_to
+  works_quiet : (n : ℕ) → Quiet n (processed_words_to c at_stop traversing i n)
+  unfolding processed_words_to
   works_quiet zero = quiet_none
   works_quiet (suc n) =
       let q : DoorCommand = queued c at_stop traversing n in
       quiet_more (omega arith)
-      (quiet_join (works_quiet n) (applied_quiet i q (try_apply_command q (work_to c at_stop traversing n) at_stop traversing)))
+      (quiet_join (works_quiet n) (applied_quiet i q (try_apply_command q (processed_to c at_stop traversing n) at_stop traversing)))
 
   commands_quiet : Quiet 8 (command_words c at_stop traversing i)
   unfolding command_words
   commands_quiet = quiet_more (omega arith) (works_quiet (min c.door_command_queue.count 8))
 
 -- the door's turn of car c
-pub record Shuts (c : Car) (room : ℕ) (t : Turn) : Type 0 where
+pub record Shuts (c : Car) (room : ℕ) (t : DoorTurn) : Type 0 where
   pub size : length t.words + 2 * ones t.opened ≤ room
   pub none : moves_in t.words ≡ 0
   pub count : t.car.move_count ≡ c.move_count
 
-shuts : {n : ℕ} {t : Turn} (c : Car) (room : ℕ) → Quiet n t.words → n + 2 * ones t.opened ≤ room → t.car.move_count ≡ c.move_count → Shuts c room t
+shuts : {n : ℕ} {t : DoorTurn} (c : Car) (room : ℕ) → Quiet n t.words → n + 2 * ones t.opened ≤ room → t.car.move_count ≡ c.move_count → Shuts c room t
 shuts c room q h e = record { size = omega (arith, q.size); none = q.none; count = e }
 
-opened_most : (s : Option ℕ) (c : Car) → ones (opened_at s c) ≤ 1
+opened_most : (s : Option ℕ) (c : Car) → ones (just_opened_at s c) ≤ 1
 opened_most None c = omega arith
 opened_most (Some s) c = omega arith
 
-departed_quiet : (s : Option ℕ) (i : ℕ) → Quiet 1 (departed_from s i)
+departed_quiet : (s : Option ℕ) (i : ℕ) → Quiet 1 (departed_words s i)
 departed_quiet None i = quiet_more (omega arith) quiet_none
 departed_quiet (Some s) i = quiet_one 8 i s 0 refl
 
 door_shuts : (i : ℕ) (c : Car) (next : Option ℕ) → Shuts c 3 (door_by i c next)
 door_shuts i c next =
     door_cases (Shuts c 3) i c next (λ d. shuts c 3 quiet_none (omega arith) refl)
-    (λ d. shuts c 3 (quiet_one 6 i 0 0 refl) (omega (arith, opened_most c.target_stop (rested c c.phase d))) refl)
+    (λ d. shuts c 3 (quiet_one 6 i 0 0 refl) (omega (arith, opened_most c.target_stop (with_phase_and_door c c.phase d))) refl)
     (λ d. shuts c 3 quiet_none (omega arith) refl)
     (λ d. shuts c 3 (quiet_join (quiet_one 7 i 0 0 refl) (lamps_quiet i c.lamps both_lit)) (omega arith) refl)
     (λ s d e. shuts c 3 (quiet_join (quiet_one 7 i 0 0 refl) (quiet_join (lamps_quiet i c.lamps unlit) (departed_quiet c.target_stop i))) (omega arith) refl)
 
-after_shuts : {c k : Car} {ws : List ℕ} (t : Turn) → k.move_count ≡ c.move_count → Quiet 8 ws → Shuts k 3 t → Shuts c 11 (after ws t)
+after_shuts : {c k : Car} {ws : List ℕ} (t : DoorTurn) → k.move_count ≡ c.move_count → Quiet 8 ws → Shuts k 3 t → Shuts c 11 (after_words ws t)
 after_shuts {c} {k} {ws} t e q h = record {
   size = omega (arith, length-append ws t.words, q.size, h.size);
   none = omega (arith, moves_append ws t.words, q.none, h.none);
@@ -221,7 +222,7 @@ turn_shuts i c at_stop traversing next =
     (after_shuts (door_by i k next) (ap (λ (x : Car). x.move_count) (only c at_stop traversing)) (commands_quiet c at_stop traversing i) (door_shuts i k next))
     (record { size = omega arith; none = refl; count = refl })
 
-step_fair : (w : World) (c : Car) (t : Turn) → Shuts c 11 t → Fair 11 0 w.total_moves c (step_by w t)
+step_fair : (w : World) (c : Car) (t : DoorTurn) → Shuts c 11 t → Fair 11 0 w.total_moves c (in_world w t)
 step_fair w c t h = record {
   size = h.size;
   few = omega (arith, h.none);
@@ -229,11 +230,12 @@ step_fair w c t h = record {
   total = λ l. omega (arith, h.none);
 }
 
-pub door_fair : (w : World) (i : ℕ) → Fair 11 0 w.total_moves (car_at w.cars.items i) (door_of w i)
-unfolding door_of
+pub door_fair : (w : World) (i : ℕ) → Fair 11 0 w.total_moves (car_at w.cars.items i) (turn_of_door w i)
+unfolding turn_of_door
 door_fair w i = step_fair w (car_at w.cars.items i) (turn_on w i (car_at w.cars.items i) (line_of w.lines.items (car_at w.cars.items i).line)) (turn_shuts i (car_at w.cars.items i) _ _ _)
 
 -- a car that is not enabled has no moves
-pub move_still : (dt : Float) (w : World) (i : ℕ) → (car_at w.cars.items i).enabled ≡ false → moves_in (move_of dt w i).words ≡ 0
-unfolding move_of how_many
+pub move_still : (dt : Float) (w : World) (i : ℕ) → (car_at w.cars.items i).enabled ≡ false
+    → moves_in (turn_of_move dt w i).words ≡ 0
+unfolding turn_of_move how_many
 move_still dt w i e = rw e refl

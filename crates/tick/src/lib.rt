@@ -6,7 +6,7 @@ ghost use Rattle.tick.specs.Room.{WordsFit};
 ghost use Rattle.tick.specs.Counters.{NothingWraps};
 ghost use Rattle.tick.specs.Traps.{Traps};
 
-// Carries the claim that no tick tells more words than refusal 12 asks room for.
+// Carries the claim that no tick writes more words than refusal 12 asks room for.
 #[tactic(auto, using(crate::proofs::Proved::words_fit))]
 pub fn words_fit() -> bool
     ensures { (result ≡ true) × WordsFit }

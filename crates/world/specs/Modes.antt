@@ -5,4 +5,8 @@ use Rattle.world.specs.declared.ServiceMode.TheVariants.{Normal, Independent, In
 
 -- "v 0 Normal, 1 Independent, 2 Inspection, 3 Manual, 4 OutOfService"
 abbrev pub mode_of : ℕ → ServiceMode
-mode_of v = cond (eqb v 0) Normal (cond (eqb v 1) Independent (cond (eqb v 2) Inspection (cond (eqb v 3) Manual OutOfService)))
+mode_of v =
+    cond (eqb v 0) Normal
+    (cond (eqb v 1) Independent
+    (cond (eqb v 2) Inspection
+    (cond (eqb v 3) Manual OutOfService)))

@@ -67,8 +67,8 @@ no_rider = record { destination = None; phase = Waiting; aboard = None }
 
 -- ---- the tables
 
-abbrev pub stop_at : List Float → ℕ → Float
-stop_at stops s = get_or stops s nan
+abbrev pub stop_position : List Float → ℕ → Float
+stop_position stops s = get_or stops s nan
 
 abbrev pub line_at : List Line → ℕ → Line
 line_at lines l = get_or lines l no_line
@@ -81,7 +81,8 @@ rider_at riders r = get_or riders r no_rider
 
 -- ---- a new car, and the empty world
 
--- a car as it is loaded: "it begins Idle, closed, Normal, enabled, counters 0, up and down lit, forward unlit, no target, manual speed or queued item"
+-- a car as it is loaded: "it begins Idle, closed, Normal, enabled, counters 0, up and down lit, forward unlit, no
+-- target, manual speed or queued item"
 abbrev pub new_car : CarPlan → Car
 new_car plan = record {
   line = plan.line;
@@ -104,16 +105,28 @@ new_car plan = record {
 }
 
 -- what stands in a car's place before it is loaded
-abbrev pub empty_car : Car
-empty_car =
-    new_car (record { line = 0; motion = record { position = zero; velocity = zero; max_speed = zero; acceleration = zero; deceleration = zero; inspection_speed_factor = zero }; door_transition_ticks = 0; door_open_ticks = 0 })
+abbrev pub unloaded_car : Car
+unloaded_car =
+    new_car (record {
+      line = 0;
+      motion = record {
+        position = zero;
+        velocity = zero;
+        max_speed = zero;
+        acceleration = zero;
+        deceleration = zero;
+        inspection_speed_factor = zero;
+      };
+      door_transition_ticks = 0;
+      door_open_ticks = 0;
+    })
 
 -- "nothing loaded or queued, no hall call, no start, no tick made and every counter 0"
 unfoldable pub empty_world : World
 empty_world = record {
   stops = of_none 64 zero;
   lines = of_none 8 (record { kind = Linear; serves = serves_none });
-  cars = of_none 16 empty_car;
+  cars = of_none 16 unloaded_car;
   riders = of_none 128 no_rider;
   calls = record { up = 0; down = 0 };
   started = false;

@@ -1,14 +1,16 @@
 // A new car, and the empty world.
 ghost use Rattle.std.specs.Prelude.{◌≡◌};
-ghost use Rattle.world.specs.World.{new_car, empty_car, empty_world};
+ghost use Rattle.world.specs.World.{new_car, unloaded_car, empty_world};
 
 use crate::{
-    Calls, Car, CarPlan, ElevatorPhase, Lamps, Line, Rider, RiderPhase, ServiceMode, Table, World,
+    Car, CarPlan, ElevatorPhase, HallCalls, Lamps, Line, Rider, RiderPhase, ServiceMode, Table,
+    World,
 };
 use door::{DoorCommand, DoorState};
 
 // A car as it is loaded.
-// Stays: here and below a function by the paper's words. `From` and `Default` would promise the same, and say neither "loaded" nor "empty".
+// Stays: here and below a function by the paper's words. `From` and `Default` would promise the same, and say neither
+// "loaded" nor "empty".
 pub fn new_car(plan: CarPlan) -> Car
     ensures { result ≡ new_car plan }
 {
@@ -35,8 +37,8 @@ pub fn new_car(plan: CarPlan) -> Car
 }
 
 // What stands in a car's place before it is loaded.
-fn empty_car() -> Car
-    ensures { result ≡ empty_car }
+fn unloaded_car() -> Car
+    ensures { result ≡ unloaded_car }
 {
     new_car(CarPlan::default())
 }
@@ -51,13 +53,13 @@ pub fn empty() -> World
         phase: RiderPhase::Waiting,
         aboard: None,
     };
-    let car = empty_car();
+    let car = unloaded_car();
     World {
         stops: Table::of_none(0.0),
         lines: Table::of_none(Line::NONE),
         cars: Table::of_none(car),
         riders: Table::of_none(rider),
-        calls: Calls::NONE,
+        calls: HallCalls::NONE,
         started: false,
         ticks: 0,
         total_moves: 0,

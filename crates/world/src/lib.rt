@@ -23,8 +23,9 @@ pub enum LineKind {
 }
 
 // A table of a fixed size, or a queue: its items, of which the first `count` are there.
-// Stays: an array with its count, and no Vec: a world goes by value, and no call may run out of memory. Nor an ArrayVec of the
-// library's `arrayvec`: it is not Copy, and could not hold a count above its size, which refusal 0 finds in a lent world.
+// Stays: an array with its count, and no Vec: a world goes by value, and no call may run out of memory. Nor an
+// ArrayVec of the library's `arrayvec`: it is not Copy, and could not hold a count above its size, which refusal 0
+// finds in a lent world.
 #[derive(Clone, Copy)]
 pub struct Table<T, const N: usize> {
     pub items: [T; N],
@@ -49,8 +50,9 @@ impl<T: Copy, const N: usize> Table<T, N> {
     }
 
     // With one more item at its end; None where it is full.
-    // Stays: it answers a table, and is no `push(&mut self)`: so its promise is one equation, which loads and requests cite as the new table
-    // or the refusal; a push would say in two facts what is lent, where it is full and where it is not.
+    // Stays: it answers a table, and is no `push(&mut self)`: so its promise is one equation, which loads and
+    // requests cite as the new table or the refusal; a push would say in two facts what is lent, where it is full and
+    // where it is not.
     pub fn pushed(self, item: T) -> Option<Table<T, N>>
         ensures { result ≡ pushed self item }
     {
@@ -71,8 +73,8 @@ pub type Queue<T> = Table<T, 8>;
 pub type Stops = Table<f64, 64>;
 
 // The stops that a line serves, in order; `listed` is false where it has no list.
-// Stays: `listed` and no Option of the list. The paper's "a count above its limit" is read of every line of a lent world, also of one without a list; an Option
-// would have no count there.
+// Stays: `listed` and no Option of the list. The paper's "a count above its limit" is read of every line of a lent
+// world, also of one without a list; an Option would have no count there.
 #[derive(Clone, Copy)]
 pub struct Serves {
     pub listed: bool,
@@ -90,8 +92,8 @@ impl Serves {
 }
 
 // A line: its kind, and what it serves.
-// Stays: the stops go beside it through the calls. They are a table of the world, lent, and it is a row of another: a struct of both
-// would be made for each car's turn, and each look-up would read its two fields.
+// Stays: the stops go beside it through the calls. They are a table of the world, lent, and it is a row of another: a
+// struct of both would be made for each car's turn, and each look-up would read its two fields.
 #[derive(Clone, Copy)]
 pub struct Line {
     pub kind: LineKind,
@@ -167,7 +169,8 @@ pub struct CarPlan {
 }
 
 // components/elevator.rs, Elevator, with its position, its destination queue and its reposition cooldown.
-// Stays: its number goes beside it through the calls: as the Rust's EntityId it is the car's place in the table, and no field that could say another.
+// Stays: its number goes beside it through the calls: as the Rust's EntityId it is the car's place in the table, and
+// no field that could say another.
 #[derive(Clone, Copy)]
 pub struct Car {
     pub line: u8,
@@ -231,13 +234,13 @@ impl Lamps {
 
 // Hall calls standing in both directions: bit s is the call at stop s.
 #[derive(Clone, Copy, PartialEq, Eq)]
-pub struct Calls {
+pub struct HallCalls {
     pub up: u64,
     pub down: u64,
 }
 
-impl Calls {
-    pub const NONE: Calls = Calls { up: 0, down: 0 };
+impl HallCalls {
+    pub const NONE: HallCalls = HallCalls { up: 0, down: 0 };
 }
 
 #[derive(Clone, Copy)]
@@ -246,7 +249,7 @@ pub struct World {
     pub lines: Table<Line, 8>,
     pub cars: Table<Car, 16>,
     pub riders: Table<Rider, 128>,
-    pub calls: Calls,
+    pub calls: HallCalls,
     pub started: bool,
     // ticks made: the number of the next tick
     pub ticks: u64,

@@ -5,9 +5,9 @@ use Rattle.log_writes.proofs.Writing.{also, wrote_count, wrote_taken}
 use Rattle.study_text.proofs.Keeping.{take_min}
 use Rattle.study_step.proofs.AtHand.{leaves}
 use Rattle.study_step.proofs.Told.{told_length}
-use Rattle.pieces.specs.Pieces.{playing}
-use Rattle.pieces.specs.Parts.{advanced}
-use Rattle.pieces.specs.declared.Study.{Study}
+use Rattle.study_pieces.specs.Pieces.{study_state}
+use Rattle.study_pieces.specs.Parts.{advanced}
+use Rattle.study_pieces.specs.declared.Study.{Study}
 use Rattle.study_step.specs.Step.{end_by}
 use Rattle.study_step.proofs.play.Goals as goal
 
@@ -22,7 +22,7 @@ returns c =
     let end = c.saturating_add-end.result in
     let cut : min end (length a.piece.now) ≡ min n (length a.piece.now) = omega (arith, c.saturating_add-end.ensures, c.told-piece) in
     let g = rw (same_bytes a.piece.now end n cut) at c.advance-made.ensures in
-    let p = advanced a.run.now.ended (playing a.run.now.study a.log.now (take n a.piece.now)) in
+    let p = advanced a.run.now.ended (study_state a.run.now.study a.log.now (take n a.piece.now)) in
     record {
       next = leaves g.study g.log (wrote_taken g.kept g.kept_fits);
       held = wrote_count g.kept g.kept_fits;

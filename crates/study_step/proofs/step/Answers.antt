@@ -1,5 +1,5 @@
 -- `study_step::step` meets its contract, by what was read: of the bytes as many as there is room for, or none; where
--- the read failed the kept bytes stay and one line is told. Assumes nothing.
+-- the read failed the kept bytes stay and one line is put. Assumes nothing.
 use Rattle.std.proofs.Common.{◌≡◌, ℕ, ◌+◌, ◌-◌, min, length, length-take, refl, arith}
 use Rattle.study_step.specs.Step.{stepped}
 use Rattle.study_step.proofs.AtHand.{at_hand, how_many_read, kept_there, kept_again, leaves}

@@ -1,7 +1,0 @@
--- The cars so far are in the sum.
-use Rattle.std.proofs.Common.{◌≡◌}
-use Rattle.beside_ticks.specs.Bench.{sum_to}
-use Rattle.beside_ticks.proofs.sum_of_cars.Given as goal
-
-abbrev pub invariant-loop-car : goal.invariant-loop-car
-invariant-loop-car l = l.total ≡ sum_to l.cars l.car-index
