@@ -16,7 +16,7 @@ use move_by_trip::{arrive, distance_by};
 use move_landing::{landing, leader_position};
 use move_trip::{has_trip, trip_of};
 use move_turn::sort::SortedStops;
-use move_turn::turn::emit_turn;
+use move_turn::words::emit_turn;
 use record_kinds::{change, take_tick};
 use tape::decode;
 use tape_records::{Found, Record};
