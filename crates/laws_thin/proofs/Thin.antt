@@ -1,14 +1,18 @@
 -- Walks of functions that are lent a T, or lend one of their own: one walk for each shape, at any types. The types
 -- are variables here, so what a walk costs does not grow with them. Nothing is said of contracts: a proof by hand of
 -- a function of a shape shows that its MIR is the shape's, by conversion, and gives what the walk asks. Rattle writes
--- the proofs of `lent`'s three functions itself: these laws say that any function of their shapes is walked, at any
--- types. in_place, walk_in_place fn f(x: &mut T, s: &[u32], t: &mut [u32]) -> B { let r = g(*x, s, t); *x = r.1; r.0
--- } where g returns a struct of a B and a T: the borrow is opened, the T copied out, g called, its T stored back, and
--- the borrow closed at it keeping, walk_keeping fn f(x: T, s: &[u32], t: &mut [u32]) -> struct of a B and a T { let
--- mut w = x; let a = g(&mut w, s, t); { a, w } }: the local is lent for a lifetime that is made for the call, and is
--- then what g left there looking, walk_looking fn f(x: &T, s: &[u32]) -> B { g(*x, s) }: a share of the T is looked
--- into, the T copied out, and g called looked_whole a T that is Copy may be looked into, where a `&T` holds one
--- borrow of the whole T Assumes `Logic`.
+-- the proofs of `record_lent`'s three functions itself: these laws say that any function of their shapes is walked,
+-- at any types.
+--     in_place, walk_in_place   fn f(x: &mut T, s: &[u32], t: &mut [u32]) -> B { let r = g(*x, s, t); *x = r.1; r.0 }
+--                               where g returns a struct of a B and a T: the borrow is opened, the T copied out, g
+--                               called, its T stored back, and the borrow closed at it
+--     keeping, walk_keeping     fn f(x: T, s: &[u32], t: &mut [u32]) -> struct of a B and a T
+--                               { let mut w = x; let a = g(&mut w, s, t); { a, w } }:
+--                               the local is lent for a lifetime that is made for the call, and is then what g left
+--     looking, walk_looking     fn f(x: &T, s: &[u32]) -> B { g(*x, s) }: a share of the T is looked into, the T
+--                               copied out, and g called
+--     looked_whole              a T that is Copy may be looked into, where a `&T` holds one borrow of the whole T
+-- Assumes `Logic`.
 use mathlib.Core.Path.{◌≡◌, refl}
 use Prim.Native.Nat.{ℕ, ◌<◌, ◌^◌}
 use mathlib.Core.List.{[], ◌∷◌, List}
