@@ -76,10 +76,14 @@ driven_by Linear ahead m raw velocity = land m (moved_to raw velocity)
 driven_by (Loop circumference headway) ahead m raw velocity =
     behind ahead m (wrap_position raw circumference) velocity headway circumference
 
+-- tick_manual, `new_vel` before the loop's landing
+abbrev pub manual_speed : Motion → Float → Float → Float
+manual_speed m wanted dt = manual_velocity wanted m.velocity m.max_speed m.acceleration m.deceleration dt
+
 -- tick_manual: position and velocity; no Manual car arrives
 abbrev pub driven : LineKind → Option Float → Motion → Float → Float → Landed
 driven kind leader m wanted dt =
-    let velocity = manual_velocity wanted m.velocity m.max_speed m.acceleration m.deceleration dt in
+    let velocity = manual_speed m wanted dt in
     driven_by kind leader m (fma velocity dt m.position) velocity
 
 -- a car's landing
