@@ -1,12 +1,13 @@
-// Small tapes, a line each: a name, '=', and the words in hexadecimal. Every record but the last sets the scene.
-// It prints what the last one is answered, or which earlier one was refused. A line without '=' is a heading.
+// Small tapes, a line each: a name, '=', and the words, eight hexadecimal digits each; what is no digit is passed
+// over. Every record but the last sets the scene. It prints what the last one is answered, or which earlier one was
+// refused. A line without '=' is a heading. Of the input no more than 65,536 bytes and 1,000 lines are read, of a tape
+// no more than 256 words and 200 records.
 #![tactic(auto)]
 
-use anyhow::{Context, Result};
+use log_writes::Log;
 use record::record;
-use std::alloc::Global;
 use std::fmt;
-use std::io::{BufRead, BufReader};
+use std::io::{self, Read, Write};
 use world::World;
 use world::empty::empty;
 use world::refusal::Refusal;
@@ -35,21 +36,22 @@ impl fmt::Display for Ended {
     }
 }
 
-// The first refusal, and the record that was refused, counted from 1.
+// What ends a tape before its last word: the first refusal, with the record that was refused, counted from 1; or more
+// records than are taken.
 #[derive(Drop)]
-struct Refused {
-    refusal: Refusal,
-    record: usize,
+enum Stopped {
+    Refused { refusal: Refusal, record: usize },
+    TooLong,
 }
 
-impl fmt::Display for Refused {
+impl fmt::Display for Stopped {
     fn fmt<W: fmt::Write>(&self, f: &mut fmt::Formatter<W>) -> fmt::Result {
-        write!(
-            f,
-            "refused {} at record {}",
-            u32::from(self.refusal),
-            self.record
-        )
+        match self {
+            Stopped::Refused { refusal, record } => {
+                write!(f, "refused {} at record {record}", u32::from(*refusal))
+            }
+            Stopped::TooLong => write!(f, "too long"),
+        }
     }
 }
 
@@ -58,18 +60,16 @@ impl fmt::Display for Refused {
 // tape is none to it: a closure with its bound and its own error would say more than the four lines that the two
 // share.
 #[tactic(auto, using(claim_conditions::proofs::Taking::uses_some, claim_conditions::proofs::Taking::uses_within))]
-fn play(tape: &[u32]) -> Result<Ended, Refused> {
+fn play(tape: &[u32]) -> Result<Ended, Stopped> {
     let mut log = [0u32; 2048];
     let mut world = empty();
     let mut rest = tape;
-    let mut at = 0;
-    loop {
-        at += 1;
+    for at in 1..=200 {
         let recorded = record(world, rest, &mut log);
         world = recorded.world;
         match recorded.answer {
             Err(refusal) => {
-                return Err(Refused {
+                return Err(Stopped::Refused {
                     refusal,
                     record: at,
                 });
@@ -83,35 +83,72 @@ fn play(tape: &[u32]) -> Result<Ended, Refused> {
             }
         }
     }
+    Err(Stopped::TooLong)
 }
 
-// Stays: here and in test_ticks. A crate for these four lines would need a contract that says each word, two
-// wrong programs and a test of its memory.
-fn words_in(alloc: Global, tape: &str) -> Result<Vec<u32>> {
-    tape.split_whitespace()
-        .map(|word| u32::from_str_radix(word, 16).context(format_args!("reading {word:?}")))
-        .try_collect(alloc)
+// A digit's value. Capitals are no digits here.
+fn digit(byte: u8) -> Option<u32> {
+    match byte {
+        b'0'..=b'9' => Some(u32::from(byte - b'0')),
+        b'a'..=b'f' => Some(u32::from(byte - b'a') + 10),
+        _ => None,
+    }
+}
+
+// The words of a tape's text, as many as there is room for.
+fn read_words(tape: &[u8], words: &mut Log) {
+    let mut word: u32 = 0;
+    let mut digits: u8 = 0;
+    for byte in tape {
+        if let Some(value) = digit(*byte) {
+            word = word << 4 | value;
+            digits = digits % 8 + 1;
+            if digits == 8 {
+                words.put(word);
+            }
+        }
+    }
 }
 
 // A heading as it is, or a tape's name and its answer.
-// Stays: here and in test_ticks. This one prints at once and after the play, what that answered; that one writes
-// the name before it, as each tick is written on the way, and to a buffer.
-fn answer(rt: &(impl Print + AllocGlobal), line: &str) -> Result<()> {
-    let Some((name, tape)) = line.split_once('=') else {
-        println!(rt; "{line}")?;
-        return Ok(());
+fn answer<W: Write>(out: &mut W, line: &[u8]) -> io::Result<()> {
+    let Some(end) = line.iter().position(|byte| *byte == b'=') else {
+        out.write_all(line)?;
+        return writeln!(out, "");
     };
-    match play(words_in(rt.alloc(), tape)?.as_slice()) {
-        Ok(ended) => println!(rt; "{name}: {ended}")?,
-        Err(refused) => println!(rt; "{name}: {refused}")?,
+    out.write_all(&line[..end])?;
+    let mut words = [0u32; 256];
+    let mut read = Log::new(&mut words);
+    read_words(&line[end..], &mut read);
+    let count = read.at.min(words.len());
+    match play(&words[..count]) {
+        Ok(ended) => writeln!(out, ": {ended}"),
+        Err(stopped) => writeln!(out, ": {stopped}"),
     }
-    Ok(())
 }
 
-fn main(rt: HostRuntime) -> Result<()> {
-    let alloc = rt.alloc();
-    for line in BufReader::new(alloc, rt.stdin())?.lines(alloc) {
-        answer(&rt, line?.as_str())?;
+// The input's first bytes, to its end, to a read that fails, or as many as there is room for. Answers how many.
+fn read_text<R: Read>(source: &mut R, text: &mut [u8; 65536]) -> usize {
+    let mut held: usize = 0;
+    for _ in 0..65536 {
+        let from = held.min(text.len());
+        match source.read(&mut text[from..]) {
+            Ok(count) if 0 < count => held = from.saturating_add(count),
+            _ => break,
+        }
     }
-    Ok(())
+    held.min(text.len())
+}
+
+fn main(rt: HostRuntime) {
+    let mut text = [0u8; 65536];
+    let count = read_text(&mut rt.stdin(), &mut text).min(text.len());
+    let mut out = rt.stdout();
+    for line in text[..count]
+        .split_inclusive(|byte| *byte == b'\n')
+        .take(1000)
+    {
+        // where standard output takes nothing, there is nobody to tell
+        let _ = answer(&mut out, line.strip_suffix(b"\n").unwrap_or(line));
+    }
 }
