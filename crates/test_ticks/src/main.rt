@@ -9,7 +9,7 @@ mod show; // a tick's lines
 use log_writes::Log;
 use record::record;
 use show::Tick;
-use std::io::{self, BufReader, BufWriter, Read, Write};
+use std::io::{self, BufWriter, Read, Write};
 use world::empty::empty;
 
 // Record after record from an empty world, up to a refusal. A tick writes a word at least, and no other record writes
@@ -49,53 +49,76 @@ enum Reading {
     Words(Option<u32>),
 }
 
-// One more byte of a line. A name is written as it comes; a word ends before what lies below the digits, as blanks do,
-// and the tape is played at the line's end. Where the output takes nothing, there is nobody to tell.
+// One more byte behind a '='. A word ends before what lies below the digits, as blanks do, and the tape is played at
+// the line's end. Where the output takes nothing, here and below, there is nobody to tell.
 fn with_byte<W: Write>(
     out: &mut W,
     log: &mut [u32],
     tape: &mut Log,
-    reading: Reading,
+    word: Option<u32>,
     byte: u8,
 ) -> Reading {
-    match reading {
-        Reading::Name if byte == b'=' => {
-            let _ = out.write_all(b"\n");
-            tape.at = 0;
-            Reading::Words(None)
-        }
-        Reading::Name => {
-            let _ = out.write_all(&[byte]);
-            reading
-        }
-        Reading::Words(word) if b'0' <= byte => {
-            Reading::Words(Some(word.unwrap_or(0) << 4 | digit(byte)))
-        }
-        Reading::Words(word) => {
-            if let Some(word) = word {
-                tape.put(word);
-            }
-            if byte != b'\n' {
-                return Reading::Words(None);
-            }
-            let count = tape.at.min(tape.items.len());
-            let _ = play(out, log, &tape.items[..count]);
-            Reading::Name
-        }
+    if b'0' <= byte {
+        return Reading::Words(Some(word.unwrap_or(0) << 4 | digit(byte)));
     }
+    if let Some(word) = word {
+        tape.put(word);
+    }
+    if byte != b'\n' {
+        return Reading::Words(None);
+    }
+    let count = tape.at.min(tape.items.len());
+    let _ = play(out, log, &tape.items[..count]);
+    Reading::Name
 }
 
+// The next bytes of the input. A name is written as it stands, up to its '='.
+fn with_piece<W: Write>(
+    out: &mut W,
+    log: &mut [u32],
+    tape: &mut Log,
+    begun: Reading,
+    piece: &[u8],
+) -> Reading {
+    let mut reading = begun;
+    let mut name: usize = 0;
+    for (at, byte) in piece.iter().enumerate() {
+        match reading {
+            Reading::Words(word) => {
+                reading = with_byte(out, log, tape, word, *byte);
+                name = at.saturating_add(1);
+            }
+            Reading::Name if *byte == b'=' => {
+                let _ = out.write_all(piece.get(name..at).unwrap_or(&[]));
+                let _ = out.write_all(b"\n");
+                tape.at = 0;
+                reading = Reading::Words(None);
+            }
+            Reading::Name => {}
+        }
+    }
+    if let Reading::Name = reading {
+        let _ = out.write_all(piece.get(name..).unwrap_or(&[]));
+    }
+    reading
+}
+
+// Stays: a `for` to a count that no run reaches, as in the study.
 fn main(rt: HostRuntime) -> io::Result<()> {
-    let alloc = rt.alloc();
-    let mut out = BufWriter::new(alloc, rt.stdout())?;
+    let mut source = rt.stdin();
+    let mut out = BufWriter::new(rt.alloc(), rt.stdout())?;
     let mut log = [0u32; 2048];
     let mut words = [0u32; 8192];
     let mut tape = Log::new(&mut words);
     let mut reading = Reading::Name;
-    for byte in BufReader::new(alloc, rt.stdin())?.bytes() {
+    let mut piece = [0u8; 65536];
+    for _ in 0..u64::MAX {
         // a read that fails ends the input
-        let Ok(byte) = byte else { break };
-        reading = with_byte(&mut out, &mut log, &mut tape, reading, byte);
+        let count = source.read(&mut piece).unwrap_or(0).min(piece.len());
+        if count == 0 {
+            break;
+        }
+        reading = with_piece(&mut out, &mut log, &mut tape, reading, &piece[..count]);
     }
     let _ = out.flush();
     Ok(())
