@@ -6,6 +6,8 @@
 
 mod show; // a tick's lines
 
+ghost use Rattle.std.specs.Prelude.{◌<◌};
+
 use log_writes::Log;
 use record::record;
 use show::Tick;
@@ -38,7 +40,9 @@ fn play<W: Write>(out: &mut W, log: &mut [u32], tape: &[u32]) -> io::Result<()> 
 }
 
 // The value of a digit, capitals among them.
-fn digit(byte: u8) -> u32 {
+fn digit(byte: u8) -> u32
+    ensures { result < 16 }
+{
     u32::from((byte % 16 + byte / 64 * 9) % 16)
 }
 
